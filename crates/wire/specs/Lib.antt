@@ -1,0 +1,4 @@
+pub mod Bytes
+pub mod Coding
+pub mod Fixed
+pub mod Meaning
