@@ -1,0 +1,3 @@
+// Events and answers against bytes that were written out by hand from their layout.
+#[cfg(test)]
+mod tests;

@@ -1,0 +1,17 @@
+pub mod AnswerLaws
+pub mod AnswerRows
+pub mod BlockBytes
+pub mod Blocks
+pub mod ByNumber
+pub mod Done
+pub mod Entries
+pub mod EventKinds
+pub mod EventLaws
+pub mod EventPlace
+pub mod ExactRows
+pub mod Exactly
+pub mod Laid
+pub mod LaidRows
+pub mod Picked
+pub mod Refusing
+pub mod RowEntries
