@@ -1,0 +1,4 @@
+mod Folding
+mod Keeping
+mod Places
+pub mod Laws

@@ -1,0 +1,4 @@
+mod Cells
+mod Keeping
+pub mod Laid
+pub mod Laws
