@@ -1,0 +1,9 @@
+mod Asks
+mod Doings
+mod Joined
+mod Listings
+mod Made
+mod RootLaws
+mod Roots
+mod Said
+mod Shorts

@@ -1,0 +1,4 @@
+pub mod Laws
+pub mod Text
+pub mod Meaning
+pub mod Short
