@@ -4,7 +4,7 @@ use borrow.Rule.Slice.PartMut.{put_mid}
 use Rattle.rows.specs.Rows.{kept_cells}
 use Rattle.rows.proofs.Keeping.{Keeping, none_looked_at, next_fits, more_stays, more_goes, all_looked_at, rows_kept}
 use Rattle.rows.proofs.keep.Goals as goal
-use Rattle.rows.proofs.keep.Goals.{then_Keeps, else-keeps}
+use Rattle.rows.proofs.keep.Goals.{then-keeps, else-keeps}
 
 pub loop-i-init : goal.loop-i-init
 loop-i-init g c = none_looked_at _ c.args.width c.args.region.now
@@ -32,7 +32,7 @@ loop-i-preserved g c =
     let fits : c.loop-i.from + c.args.width ≤ length c.args.region.now =
     omega (arith, next_fits c.args.width c.loop-i._i c.args.count c.loop-i.from (length c.args.region.now) c.loop-i.invariant.looked) in
     elim c.if-keeps.branch [
-      | then_Keeps w ↦ rw (w.region-is, w.to-is, w.stay-is) (more_stays _ c.args.width c.loop-i._i c.loop-i.stay c.loop-i.from c.loop-i.to c.args.region.now c.loop-i.region c.loop-i.invariant fits w.copy_within.new.self (sym w.if-keeps.ensures) w.copy_within.ensures.after)
+      | then-keeps w ↦ rw (w.region-is, w.to-is, w.stay-is) (more_stays _ c.args.width c.loop-i._i c.loop-i.stay c.loop-i.from c.loop-i.to c.args.region.now c.loop-i.region c.loop-i.invariant fits w.copy_within.new.self (sym w.if-keeps.ensures) w.copy_within.ensures.after)
       | else-keeps w ↦ rw (w.region-is, w.to-is, w.stay-is) (more_goes _ c.args.width c.loop-i._i c.loop-i.stay c.loop-i.from c.loop-i.to c.args.region.now c.loop-i.region c.loop-i.invariant fits (sym w.if-keeps.ensures))
     ]
 
