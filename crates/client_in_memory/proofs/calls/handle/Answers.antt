@@ -8,26 +8,26 @@ use Rattle.client_in_memory.specs.Calls.{stage}
 use Rattle.client_in_memory.proofs.Afters.{passes, took_it, no_room}
 use Rattle.client_in_memory.proofs.calls.handle.Goals as goal
 
-pub returns-in-default : goal.returns-in-default
-returns-in-default c =
+pub returns-in_default : goal.returns-in_default
+returns-in_default c =
     record {
       handled =
           record {
-            took = λ l es a. absurd (both_ways (plausible c.args.memory.now) c.in-default.ensures (passes l es c.args.memory.now a));
+            took = λ l es a. absurd (both_ways (plausible c.args.memory.now) c.in_default.ensures (passes l es c.args.memory.now a));
             others = λ _. (refl, refl, refl);
           };
       right = (keeps_its_promises stage).0;
       safe = (keeps_its_promises stage).3;
     }
 
-pub returns-in-default-serve : goal.returns-in-default-serve
-returns-in-default-serve c =
+pub returns-in_default-serve : goal.returns-in_default-serve
+returns-in_default-serve c =
     record {
       handled =
           record {
             took =
                 λ l es a.
-                no_room l es c.args.memory.now a (sizes c.in-Some.layout) c.size-size.result c.in-Some.ensures.1 c.size-size.ensures c.args.event.now c.args.answer.now c.serve.new.out c.serve.new.memory (typed_bytes c.args.event.now c.type_inv.event) (omega arith) _ c.in-default-serve.ensures;
+                no_room l es c.args.memory.now a (sizes c.in-Some.layout) c.size-size.result c.in-Some.ensures.1 c.size-size.ensures c.args.event.now c.args.answer.now c.serve.new.out c.serve.new.memory (typed_bytes c.args.event.now c.type_inv.event) (omega arith) _ c.in_default-serve.ensures;
             others = λ no. absurd (both_ways (plausible c.args.memory.now) no c.in-Some.ensures.0);
           };
       right = (keeps_its_promises stage).0;

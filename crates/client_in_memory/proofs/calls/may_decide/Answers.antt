@@ -5,8 +5,8 @@ use Rattle.layout.specs.Layout.{sizes, plausible}
 use Rattle.client_in_memory.proofs.Afters.{client, passes, held_part, lets}
 use Rattle.client_in_memory.proofs.calls.may_decide.Goals as goal
 
-pub returns-in-default : goal.returns-in-default
-returns-in-default c l es a = both_ways (plausible c.args.memory.now) c.in-default.ensures (passes l es c.args.memory.now a)
+pub returns-in_default : goal.returns-in_default
+returns-in_default c l es a = both_ways (plausible c.args.memory.now) c.in_default.ensures (passes l es c.args.memory.now a)
 
 pub returns : goal.returns
 returns c l es a =

@@ -18,9 +18,9 @@ neither n bs h =
     let not_done = ne_eqb n 1 (omega arith) in
     rw (not-refused, not_done)
 
-pub returns-in-default : goal.returns-in-default
+pub returns-in_default : goal.returns-in_default
 unfolding answer_read parse_answer
-returns-in-default c = record { answer = rw (nil_from_length c.args.bytes.now (omega (arith, ltb-true, ltb-false))); exact = tt }
+returns-in_default c = record { answer = rw (nil_from_length c.args.bytes.now (omega (arith, ltb-true, ltb-false))); exact = tt }
 
 pub returns-in-0 : goal.returns-in-0
 unfolding parse_answer pick
@@ -40,9 +40,9 @@ returns-in-1 c =
       exact = c.read_done.ensures.exact;
     }
 
-pub returns-in-default-number : goal.returns-in-default-number
+pub returns-in_default-number : goal.returns-in_default-number
 unfolding answer_read
-returns-in-default-number c =
+returns-in_default-number c =
     let bs = c.args.bytes.now in
     let unknown : 2 ≤ get_or bs 0 0 = omega arith in
     record { answer = sym (by_first bs (get_or bs 0 0) (omega (arith, ltb-true, ltb-false)) refl ∙ neither (get_or bs 0 0) (drop 1 bs) unknown); exact = tt }

@@ -4,24 +4,24 @@ use Rattle.events.specs.Reading.{answer_read}
 use Rattle.events.proofs.AnswerRows.{none_at_first, none_at_second, none_at_third, none_at_fourth, none_behind, four_rows}
 use Rattle.events.proofs.answer_reading.read_done.Goals as goal
 
-pub returns-in-default : goal.returns-in-default
+pub returns-in_default : goal.returns-in_default
 unfolding answer_read
-returns-in-default c = record { answer = sym (none_at_first c.args.bytes.now c.in-default.ensures); exact = tt }
+returns-in_default c = record { answer = sym (none_at_first c.args.bytes.now c.in_default.ensures); exact = tt }
 
-pub returns-in-default-split_row : goal.returns-in-default-split_row
+pub returns-in_default-split_row : goal.returns-in_default-split_row
 unfolding answer_read
-returns-in-default-split_row c = record { answer = sym (none_at_second c.in-Some.ensures c.in-default-split_row.ensures); exact = tt }
+returns-in_default-split_row c = record { answer = sym (none_at_second c.in-Some.ensures c.in_default-split_row.ensures); exact = tt }
 
-pub returns-in-default-split_row-2 : goal.returns-in-default-split_row-2
+pub returns-in_default-split_row-2 : goal.returns-in_default-split_row-2
 unfolding answer_read
-returns-in-default-split_row-2 c =
-    record { answer = sym (none_at_third c.in-Some.ensures c.in-Some-split_row.ensures c.in-default-split_row-2.ensures); exact = tt }
+returns-in_default-split_row-2 c =
+    record { answer = sym (none_at_third c.in-Some.ensures c.in-Some-split_row.ensures c.in_default-split_row-2.ensures); exact = tt }
 
-pub returns-in-default-split_row-3 : goal.returns-in-default-split_row-3
+pub returns-in_default-split_row-3 : goal.returns-in_default-split_row-3
 unfolding answer_read
-returns-in-default-split_row-3 c =
+returns-in_default-split_row-3 c =
     record {
-      answer = sym (none_at_fourth c.in-Some.ensures c.in-Some-split_row.ensures c.in-Some-split_row-2.ensures c.in-default-split_row-3.ensures);
+      answer = sym (none_at_fourth c.in-Some.ensures c.in-Some-split_row.ensures c.in-Some-split_row-2.ensures c.in_default-split_row-3.ensures);
       exact = tt;
     }
 

@@ -7,13 +7,13 @@ use Rattle.events.specs.Reading.{answer_read}
 use Rattle.events.proofs.Refusing.{no_refusal, refusal_is}
 use Rattle.events.proofs.answer_reading.read_refused.Goals as goal
 
-pub returns-in-default : goal.returns-in-default
+pub returns-in_default : goal.returns-in_default
 unfolding answer_read parse_refused
-returns-in-default c = rw (nil_from_length c.args.bytes.now (omega (arith, ltb-true, ltb-false)))
+returns-in_default c = rw (nil_from_length c.args.bytes.now (omega (arith, ltb-true, ltb-false)))
 
-pub returns-in-default-read : goal.returns-in-default-read
+pub returns-in_default-read : goal.returns-in_default-read
 unfolding answer_read
-returns-in-default-read c = sym (no_refusal c.args.bytes.now _ (take_rest c.args.bytes.now 1) (omega (arith, c.in-default-read.ensures)))
+returns-in_default-read c = sym (no_refusal c.args.bytes.now _ (take_rest c.args.bytes.now 1) (omega (arith, c.in_default-read.ensures)))
 
 pub returns-then-rest-gt8 : goal.returns-then-rest-gt8
 unfolding answer_read

@@ -2,8 +2,8 @@ use Rattle.std.proofs.lemmas.List.{take_rest}
 use Rattle.events.proofs.Exactly.{rest_short, rest_long, rest_right}
 use Rattle.events.proofs.event_reading.last.Goals as goal
 
-pub returns-in-default : goal.returns-in-default
-returns-in-default g c = λ e. rest_short c.args.at g.T.Fixed.width c.args.bytes.now e c.requires c.in-default.ensures
+pub returns-in_default : goal.returns-in_default
+returns-in_default g c = λ e. rest_short c.args.at g.T.Fixed.width c.args.bytes.now e c.requires c.in_default.ensures
 
 pub returns-then-bytes-end : goal.returns-then-bytes-end
 returns-then-bytes-end g c = λ e.

@@ -4,10 +4,10 @@ use Rattle.events.specs.Reading.{read_as}
 use Rattle.events.proofs.Blocks.{block_cut, rest_inside, block_long, block_whole}
 use Rattle.events.proofs.event_reading.read_block.Goals as goal
 
-pub returns-in-default : goal.returns-in-default
+pub returns-in_default : goal.returns-in_default
 unfolding read_as
-returns-in-default c =
-    record { event = block_cut c.args.bytes.now _ (take_rest c.args.bytes.now 1) c.requires c.in-default.ensures; exact = tt }
+returns-in_default c =
+    record { event = block_cut c.args.bytes.now _ (take_rest c.args.bytes.now 1) c.requires c.in_default.ensures; exact = tt }
 
 pub overflow_sub-result : goal.overflow_sub-result
 overflow_sub-result c = rest_inside c.args.bytes.now _ (take_rest c.args.bytes.now 1) c.requires _ _ _ c.in-Some.ensures

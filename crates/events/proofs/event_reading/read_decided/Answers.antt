@@ -20,11 +20,11 @@ nine bs l = omega (arith, simp (length-take, length-drop) at l)
 abbrev event : List ℕ → Event
 event bs = decided (le_value (take 8 (drop 1 bs))) (data_from (drop 9 bs))
 
-pub returns-in-default : goal.returns-in-default
+pub returns-in_default : goal.returns-in_default
 unfolding read_as
-returns-in-default c =
+returns-in_default c =
     let bs = c.args.bytes.now in
-    let less : length (take (length bs - 1) (drop 1 bs)) < 8 = c.in-default.ensures in
+    let less : length (take (length bs - 1) (drop 1 bs)) < 8 = c.in_default.ensures in
     sym (rest_short 1 136 bs (event bs) c.requires (omega arith))
 
 pub returns-in-Ok : goal.returns-in-Ok

@@ -9,9 +9,9 @@ use Rattle.events.proofs.ByNumber.{by_first, first_unknown, read_all}
 use Rattle.events.proofs.ExactRows.{event_without}
 use Rattle.events.proofs.event_reading.read_event.Goals as goal
 
-pub returns-in-default : goal.returns-in-default
+pub returns-in_default : goal.returns-in_default
 unfolding read_as parse
-returns-in-default c =
+returns-in_default c =
     let none : c.args.bytes.now ≡ [] = nil_from_length c.args.bytes.now (omega (arith, ltb-true, ltb-false)) in
     read_all c.args.bytes.now c.type_inv.bytes c.well_formed.0.0 (Err (record { place = 0 })) (rw none) tt
 
@@ -51,9 +51,9 @@ returns-in-4 c =
     (c.read_resend.ensures ∙ sym (by_first c.args.bytes.now 4 (omega (arith, ltb-true, ltb-false)) c.in-4.is))
     (event_without c.read_resend.result 1 0 (drop 1 c.args.bytes.now) resend c.read_resend.ensures (λ p. omega arith))
 
-pub returns-in-default-number : goal.returns-in-default-number
+pub returns-in_default-number : goal.returns-in_default-number
 unfolding read_as
-returns-in-default-number c =
+returns-in_default-number c =
     let unknown : 5 ≤ get_or c.args.bytes.now 0 0 = omega arith in
     read_all c.args.bytes.now c.type_inv.bytes (omega arith) (Err (record { place = 0 }))
     (sym (first_unknown c.args.bytes.now (omega (arith, ltb-true, ltb-false)) unknown))

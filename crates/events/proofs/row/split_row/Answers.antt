@@ -4,9 +4,9 @@ use Rattle.events.specs.Layout.{row_there}
 use Rattle.events.proofs.RowEntries.{row_in_front, row_not_there}
 use Rattle.events.proofs.row.split_row.Goals as goal
 
-pub returns-in-default : goal.returns-in-default
+pub returns-in_default : goal.returns-in_default
 unfolding row_there
-returns-in-default g c = rw (nil_from_length c.args.bytes.now (omega (arith, ltb-true, ltb-false)))
+returns-in_default g c = rw (nil_from_length c.args.bytes.now (omega (arith, ltb-true, ltb-false)))
 
 pub returns-then-behind-size : goal.returns-then-behind-size
 returns-then-behind-size g c =

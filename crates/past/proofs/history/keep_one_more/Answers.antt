@@ -7,10 +7,10 @@ use Rattle.past.proofs.Places.{keep_same, keep_none, keep_one}
 use Rattle.past.proofs.Keeping.{same_after, put_after}
 use Rattle.past.proofs.history.keep_one_more.Goals as goal
 
-pub returns-in-default : goal.returns-in-default
-returns-in-default c =
+pub returns-in_default : goal.returns-in_default
+returns-in_default c =
     same_after c.args.most _ c.args.count c.args.region.now c.requires.0 c.requires.1
-    (keep_same c.args.most c.args.count _ c.args.region.now c.requires.0 (c.in-default.ensures.places (entry c.args.source c.args.target) refl))
+    (keep_same c.args.most c.args.count _ c.args.region.now c.requires.0 (c.in_default.ensures.places (entry c.args.source c.args.target) refl))
 
 pub returns-then-place-most : goal.returns-then-place-most
 returns-then-place-most c =

@@ -9,8 +9,8 @@ use Rattle.run_client.proofs.reply.answered_in.Goals as goal
 
 pub slice_bounds-read_answer-end : goal.slice_bounds-read_answer-end
 slice_bounds-read_answer-end c =
-    let w = c.in-ok-n.ensures [] in
-    let fits : c.in-ok-n.n ≤ length c.handle.new.answer = omega (arith, w.room, w.counted, c.handle.auto.answer) in
+    let w = c.in_ok-n.ensures [] in
+    let fits : c.in_ok-n.n ≤ length c.handle.new.answer = omega (arith, w.room, w.counted, c.handle.auto.answer) in
     search rules
 
 pub returns : goal.returns
@@ -19,5 +19,5 @@ returns c =
     let l = c.args.client.now.limits in
     let event = c.args.event.now in
     let short : length event < 18446744073709551616 = omega arith in
-    λ es. c.in-ok-answer_text.ensures
-    ∙ ap answer_text (read_again l.clients l.me l.kept l.waiting event (typed_bytes event c.type_inv.event) short es c.args.room.now c.handle.new.answer _ c.in-ok-n.n (answer_of c.in-Some.answer) (c.in-ok-n.ensures es) (ap (λ (n : ℕ). take n c.handle.new.answer) (sub-zero c.in-ok-n.n)) c.in-Some.ensures.answer)
+    λ es. c.in_ok-answer_text.ensures
+    ∙ ap answer_text (read_again l.clients l.me l.kept l.waiting event (typed_bytes event c.type_inv.event) short es c.args.room.now c.handle.new.answer _ c.in_ok-n.n (answer_of c.in-Some.answer) (c.in_ok-n.ensures es) (ap (λ (n : ℕ). take n c.handle.new.answer) (sub-zero c.in_ok-n.n)) c.in-Some.ensures.answer)

@@ -10,4 +10,4 @@ loop-place-preserved c =
 pub returns : goal.returns
 returns c =
     let l = c.args.client.now.limits in
-    λ es. past_told l.clients l.me l.kept l.waiting es _ c.as_slice.result.now c.in-ok-past_text.ensures (c.as_slice.ensures.value ∙ c.loop-place.invariant)
+    λ es. past_told l.clients l.me l.kept l.waiting es _ c.as_slice.result.now c.in_ok-past_text.ensures (c.as_slice.ensures.value ∙ c.loop-place.invariant)

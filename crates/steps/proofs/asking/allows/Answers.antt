@@ -4,9 +4,9 @@ use Rattle.wire.specs.Meaning.{data_of, duty_of}
 use Rattle.steps.proofs.Letting.{lets_none, lets_ends, lets_other, lets_not, lets_it}
 use Rattle.steps.proofs.asking.allows.Goals as goal
 
-pub returns-in-default : goal.returns-in-default
-returns-in-default c t h =
-    sym (c.loop-place.invariant t h ∙ lets_none t.past c.args.slot (data_of c.args.data.now) c.loop-place.place t.active (c.in-default.ensures t h))
+pub returns-in_default : goal.returns-in_default
+returns-in_default c t h =
+    sym (c.loop-place.invariant t h ∙ lets_none t.past c.args.slot (data_of c.args.data.now) c.loop-place.place t.active (c.in_default.ensures t h))
 
 pub returns : goal.returns
 returns c t h =

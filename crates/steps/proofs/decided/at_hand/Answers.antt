@@ -9,10 +9,10 @@ returns-then-get-eq0 c t h ready =
     let hand = c.get.ensures _ t h in
     hand_none c.args.slot t (omega arith)
 
-pub returns-in-default : goal.returns-in-default
-returns-in-default c t h ready =
+pub returns-in_default : goal.returns-in_default
+returns-in_default c t h ready =
     let hand = c.get.ensures _ t h in
-    hand_empty c.args.slot t (omega (arith, ready.fits.at_hand)) (c.in-default.ensures t h)
+    hand_empty c.args.slot t (omega (arith, ready.fits.at_hand)) (c.in_default.ensures t h)
 
 pub returns-then-duty-slot : goal.returns-then-duty-slot
 unfolding duty_of

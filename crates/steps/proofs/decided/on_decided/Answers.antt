@@ -12,15 +12,15 @@ use Rattle.steps.proofs.Serving.{serves_done, serves_unwritten, serves_still}
 use Rattle.steps.proofs.Signing.{decided_taken, nothing_done, signed_done}
 use Rattle.steps.proofs.decided.on_decided.Goals as goal
 
-pub returns-in-default : goal.returns-in-default
-returns-in-default c can on t h ready =
+pub returns-in_default : goal.returns-in_default
+returns-in_default c can on t h ready =
     let d : Data = data_of c.args.data.now in
-    let still = nothing_done can t c.args.slot d (c.in-default.ensures t h ready) in
+    let still = nothing_done can t c.args.slot d (c.in_default.ensures t h ready) in
     serves_still (sizes c.args.layout.now) can (decided c.args.slot (data_of c.args.data.now)) c.args.memory.now c.args.out.now c.write_answer.new.out t (does [] [] [] []) (decided_taken can t c.args.slot d on) still.1 c.write_answer.result (subst (Held (sizes c.args.layout.now) c.args.memory.now) (sym still.0) h) c.write_answer.ensures
 
-pub returns-in-default-write_answer : goal.returns-in-default-write_answer
+pub returns-in_default-write_answer : goal.returns-in_default-write_answer
 unfolding share_of duty_of
-returns-in-default-write_answer c can on t h ready =
+returns-in_default-write_answer c can on t h ready =
     let y : Duty = duty_of c.in-Some.duty in
     let d : Data = data_of c.args.data.now in
     let row : List Duty = duty_found c.upcoming-begun.result in
@@ -28,7 +28,7 @@ returns-in-default-write_answer c can on t h ready =
     let me = ap (λ z. z.me) h.sized in
     let signs = signed_done can t c.args.slot d y (c.in-Some.ensures t h ready) h.well.sizes.some_wait ready row (c.upcoming-begun.ensures t h) in
     let says = signs.1 ∙ ap (λ w. does (form w ∷ []) [] row []) me in
-    serves_unwritten (sizes c.args.layout.now) can (decided c.args.slot (data_of c.args.data.now)) c.args.memory.now c.args.out.now c.write_answer-2.new.out t (does (form c.args.layout.now.me ∷ []) [] row []) (decided_taken can t c.args.slot d on) says _ c.in-default-write_answer.ensures
+    serves_unwritten (sizes c.args.layout.now) can (decided c.args.slot (data_of c.args.data.now)) c.args.memory.now c.args.out.now c.write_answer-2.new.out t (does (form c.args.layout.now.me ∷ []) [] row []) (decided_taken can t c.args.slot d on) says _ c.in_default-write_answer.ensures
 
 pub returns : goal.returns
 unfolding share_of duty_of

@@ -23,7 +23,7 @@ unfolding pick duty_of
 returns-in-Some-ahead_for c t h =
     let hand = c.get.ensures _ t h in
     let y : Duty = duty_of c.args.duty.now in
-    sym (picked_first t.at_hand (upcoming (t.queue ++ y ∷ []) t.ahead) [] (omega arith) ∙ up_last y t.queue t.ahead (c.in-default.ensures t h)
+    sym (picked_first t.at_hand (upcoming (t.queue ++ y ∷ []) t.ahead) [] (omega arith) ∙ up_last y t.queue t.ahead (c.in_default.ensures t h)
     ∙ ap (λ b. pick b [] (y ∷ [])) (told_some y.slot (data_of c.in-Some-ahead_for.field-0) t.ahead (c.in-Some-ahead_for.ensures t h)))
 
 pub returns-in-None : goal.returns-in-None
@@ -31,5 +31,5 @@ unfolding pick duty_of
 returns-in-None c t h =
     let hand = c.get.ensures _ t h in
     let y : Duty = duty_of c.args.duty.now in
-    sym (picked_first t.at_hand (upcoming (t.queue ++ y ∷ []) t.ahead) [] (omega arith) ∙ up_last y t.queue t.ahead (c.in-default.ensures t h)
+    sym (picked_first t.at_hand (upcoming (t.queue ++ y ∷ []) t.ahead) [] (omega arith) ∙ up_last y t.queue t.ahead (c.in_default.ensures t h)
     ∙ ap (λ b. pick b [] (y ∷ [])) (told_none y.slot t.ahead (c.in-None.ensures t h)))

@@ -8,7 +8,7 @@ use Rattle.layout.specs.Layout.{sizes}
 use Rattle.keeper.specs.Step.{all_freed}
 use Rattle.steps.proofs.Beginning.{freed_out, one_freed, none_freed, fits_there}
 use Rattle.steps.proofs.queue.begin.Goals as goal
-use Rattle.steps.proofs.queue.begin.Goals.{in-Some, in-default}
+use Rattle.steps.proofs.queue.begin.Goals.{in-Some, in_default}
 
 pub returns : goal.returns
 unfolding duty_of
@@ -25,8 +25,8 @@ returns c t h all fits some =
           let found = w.in-Some.ensures t h in
           let free = one_freed n last t.banks ∙ freed_out n t.sizes.waiting c.args.layout.now.waiting y t.active (last ∷ []) t.banks wait one h.well.active found in
           rw w.memory-is (subst (λ (bs : List Bank). Held (sizes c.args.layout.now) w.release.new.memory (with_banks bs t)) free (w.release.ensures t h (fits_there _ last t.active found all)))
-      | in-default w ↦
-          let free = none_freed n t.banks ∙ freed_out n t.sizes.waiting c.args.layout.now.waiting y t.active [] t.banks wait one h.well.active (w.in-default.ensures t h) in
+      | in_default w ↦
+          let free = none_freed n t.banks ∙ freed_out n t.sizes.waiting c.args.layout.now.waiting y t.active [] t.banks wait one h.well.active (w.in_default.ensures t h) in
           rw w.memory-is (subst (λ (bs : List Bank). Held (sizes c.args.layout.now) c.args.memory.now (with_banks bs t)) free h)
     ] in
     let form : ℕ → Stored =

@@ -31,8 +31,8 @@ returns-in-Some c t h r =
     subst (λ (v : Stored). Held (sizes c.args.layout.now) c.begin.new.memory v) (begins y u (omega arith) first ∙ sym (settle_is t.queue t))
     (c.begin.ensures u held deciding (fits_there 0 y u.queue first (skipped_all SlotFits t.queue t r.waiting)) (some_waits y u.queue first))
 
-pub returns-in-default : goal.returns-in-default
-returns-in-default c t h r =
+pub returns-in_default : goal.returns-in_default
+returns-in_default c t h r =
     let u : Stored = skipped t.queue t in
     let held = c.skip_shown.ensures t h r in
-    subst (λ (v : Stored). Held (sizes c.args.layout.now) c.skip_shown.new.memory v) (sym (none_waits u (c.in-default.ensures u held)) ∙ sym (settle_is t.queue t)) held
+    subst (λ (v : Stored). Held (sizes c.args.layout.now) c.skip_shown.new.memory v) (sym (none_waits u (c.in_default.ensures u held)) ∙ sym (settle_is t.queue t)) held

@@ -34,10 +34,10 @@ pub returns-after-walk : goal.returns-after-walk
 returns-after-walk c t h r =
     walk_ends (sizes c.args.layout.now) c.walk.memory c.walk.place c.walk.left (skipped t.queue t) (c.walk.invariant t h r) (omega arith)
 
-pub returns-in-default-data_at : goal.returns-in-default-data_at
-returns-in-default-data_at c t h r =
+pub returns-in_default-data_at : goal.returns-in_default-data_at
+returns-in_default-data_at c t h r =
     let on = c.loop-left.invariant (skipped t.queue t) (c.walk.invariant t h r) in
-    walk_passed (sizes c.args.layout.now) c.loop-left.memory c.walk.place c.loop-left.left (skipped t.queue t) on (duty_of c.in-Some.first) (c.in-Some.ensures on.client on.held) (c.in-default-data_at.ensures on.client on.held)
+    walk_passed (sizes c.args.layout.now) c.loop-left.memory c.walk.place c.loop-left.left (skipped t.queue t) on (duty_of c.in-Some.first) (c.in-Some.ensures on.client on.held) (c.in_default-data_at.ensures on.client on.held)
 
 pub returns-then-first-shown : goal.returns-then-first-shown
 unfolding duty_of data_of

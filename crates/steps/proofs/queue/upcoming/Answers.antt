@@ -5,15 +5,15 @@ use Rattle.wire.specs.Meaning.{duty_of, data_of}
 use Rattle.steps.proofs.Upcoming.{told_none, told_some, up_none, up_passes, up_stops, up_ends}
 use Rattle.steps.proofs.queue.upcoming.Goals as goal
 
-pub returns-in-default : goal.returns-in-default
-returns-in-default c t h =
-    sym (c.loop-place.invariant t h ∙ up_none c.loop-place.place t.queue t.ahead (c.in-default.ensures t h))
+pub returns-in_default : goal.returns-in_default
+returns-in_default c t h =
+    sym (c.loop-place.invariant t h ∙ up_none c.loop-place.place t.queue t.ahead (c.in_default.ensures t h))
 
 pub loop-place-preserved : goal.loop-place-preserved
 unfolding duty_of
 loop-place-preserved c t h =
     c.loop-place.invariant t h
-    ∙ up_passes c.loop-place.place t.queue t.ahead (duty_of c.in-Some.duty) (c.in-Some.ensures t h) (told_some c.in-Some.duty.slot (data_of c.in-default-ahead_for.field-0) t.ahead (c.in-default-ahead_for.ensures t h))
+    ∙ up_passes c.loop-place.place t.queue t.ahead (duty_of c.in-Some.duty) (c.in-Some.ensures t h) (told_some c.in-Some.duty.slot (data_of c.in_default-ahead_for.field-0) t.ahead (c.in_default-ahead_for.ensures t h))
 
 pub returns-in-loop-place : goal.returns-in-loop-place
 unfolding duty_of

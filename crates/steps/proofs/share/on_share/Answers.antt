@@ -9,38 +9,38 @@ use Rattle.layout.specs.Layout.{sizes}
 use Rattle.steps.proofs.Sharing.{no_client, not_heard, second, put_there, taken_so, share_refused, share_done, share_unwritten}
 use Rattle.steps.proofs.share.on_share.Goals as goal
 
-pub returns-in-default-signer : goal.returns-in-default-signer
+pub returns-in_default-signer : goal.returns-in_default-signer
 unfolding share_of
-returns-in-default-signer c can ok t h r =
+returns-in_default-signer c can ok t h r =
     let x : Share = share_of c.in-Some.share in
     let group = ap (λ z. z.clients) h.sized in
-    let is = no_client can t x (omega (arith, c.in-default-signer.ensures)) in
-    share_refused (sizes c.args.layout.now) can c.args.memory.now c.args.out.now c.refuse-in-default-signer.new.out t x _ c.in-Some.ensures.1 c.refuse-in-default-signer.result 2 h (omega arith) is c.refuse-in-default-signer.ensures
+    let is = no_client can t x (omega (arith, c.in_default-signer.ensures)) in
+    share_refused (sizes c.args.layout.now) can c.args.memory.now c.args.out.now c.refuse-in_default-signer.new.out t x _ c.in-Some.ensures.1 c.refuse-in_default-signer.result 2 h (omega arith) is c.refuse-in_default-signer.ensures
 
-pub returns-in-default-listened : goal.returns-in-default-listened
+pub returns-in_default-listened : goal.returns-in_default-listened
 unfolding share_of data_of
-returns-in-default-listened c can ok t h r =
+returns-in_default-listened c can ok t h r =
     let x : Share = share_of c.in-Some.share in
     let group = ap (λ z. z.clients) h.sized in
     let signed = c.in-Some-signer.ensures in
-    let is = not_heard can t x ok c.in-Some-signer.who signed.0 (omega arith) (c.in-default-listened.ensures.first t h r) in
-    share_refused (sizes c.args.layout.now) can c.args.memory.now c.args.out.now c.refuse-in-default-listened.new.out t x _ c.in-Some.ensures.1 c.refuse-in-default-listened.result 5 h (omega arith) is c.refuse-in-default-listened.ensures
+    let is = not_heard can t x ok c.in-Some-signer.who signed.0 (omega arith) (c.in_default-listened.ensures.first t h r) in
+    share_refused (sizes c.args.layout.now) can c.args.memory.now c.args.out.now c.refuse-in_default-listened.new.out t x _ c.in-Some.ensures.1 c.refuse-in_default-listened.result 5 h (omega arith) is c.refuse-in_default-listened.ensures
 
-pub returns-in-default-free_cell : goal.returns-in-default-free_cell
+pub returns-in_default-free_cell : goal.returns-in_default-free_cell
 unfolding share_of data_of
-returns-in-default-free_cell c can ok t h r =
+returns-in_default-free_cell c can ok t h r =
     let x : Share = share_of c.in-Some.share in
     let group = ap (λ z. z.clients) h.sized in
     let room = ap (λ z. z.waiting) h.sized in
     let signed = c.in-Some-signer.ensures in
     let heard = c.in-Some-listened.ensures in
     let many = h.well.banks in
-    let is = second can t x ok c.in-Some-signer.who signed.0 (omega arith) c.in-Some-listened.place (heard.first t h r) (omega arith) (c.in-default-free_cell.ensures.free t h) in
-    share_refused (sizes c.args.layout.now) can c.args.memory.now c.args.out.now c.refuse-in-default-free_cell.new.out t x _ c.in-Some.ensures.1 c.refuse-in-default-free_cell.result 6 h (omega arith) is c.refuse-in-default-free_cell.ensures
+    let is = second can t x ok c.in-Some-signer.who signed.0 (omega arith) c.in-Some-listened.place (heard.first t h r) (omega arith) (c.in_default-free_cell.ensures.free t h) in
+    share_refused (sizes c.args.layout.now) can c.args.memory.now c.args.out.now c.refuse-in_default-free_cell.new.out t x _ c.in-Some.ensures.1 c.refuse-in_default-free_cell.result 6 h (omega arith) is c.refuse-in_default-free_cell.ensures
 
-pub returns-in-err-n : goal.returns-in-err-n
+pub returns-in_err-n : goal.returns-in_err-n
 unfolding share_of data_of
-returns-in-err-n c can ok t h r =
+returns-in_err-n c can ok t h r =
     let x : Share = share_of c.in-Some.share in
     let group = ap (λ z. z.clients) h.sized in
     let room = ap (λ z. z.waiting) h.sized in
@@ -49,7 +49,7 @@ returns-in-err-n c can ok t h r =
     let many = h.well.banks in
     let is = taken_so can t x ok c.in-Some-signer.who signed.0 (omega arith) c.in-Some-listened.place (heard.first t h r) (omega arith) h.well (c.in-Some-free_cell.ensures.free t h) _ (c.at_quorum-handed_in.ensures t h) in
     let failed = err_from_is_err_and c.from_residual.result c.from_residual.ensures.1 in
-    share_unwritten (sizes c.args.layout.now) can c.args.memory.now c.args.out.now c.write_answer.new.out t x _ c.in-Some.ensures.1 _ is.0 is.1 c.from_residual.result failed.0 failed.1 c.in-err-n.ensures
+    share_unwritten (sizes c.args.layout.now) can c.args.memory.now c.args.out.now c.write_answer.new.out t x _ c.in-Some.ensures.1 _ is.0 is.1 c.from_residual.result failed.0 failed.1 c.in_err-n.ensures
 
 pub returns : goal.returns
 unfolding share_of data_of
@@ -64,5 +64,5 @@ returns c can ok t h r =
     let inside : c.in-Some-listened.place < length t.banks = omega arith in
     let is = taken_so can t x ok c.in-Some-signer.who signed.0 member c.in-Some-listened.place (heard.first t h r) inside h.well (c.in-Some-free_cell.ensures.free t h) _ (c.at_quorum-handed_in.ensures t h) in
     let there = put_there can t x ok c.in-Some-signer.who signed.0 member c.in-Some-listened.place (heard.first t h r) inside c.in-Some-free_cell.cell c.in-Some-free_cell.ensures.same in
-    share_done (sizes c.args.layout.now) can c.args.memory.now c.args.out.now c.write_answer.new.out t x _ c.in-Some.ensures.1 _ is.0 is.1 c.put.new.memory c.in-ok-n.n c.in-ok-n.ensures
+    share_done (sizes c.args.layout.now) can c.args.memory.now c.args.out.now c.write_answer.new.out t x _ c.in-Some.ensures.1 _ is.0 is.1 c.put.new.memory c.in_ok-n.n c.in_ok-n.ensures
     (subst (λ (u : Stored). Held (sizes c.args.layout.now) c.put.new.memory u) there (c.put.ensures t h))

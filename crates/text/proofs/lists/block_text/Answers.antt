@@ -7,6 +7,6 @@ returns-then-is_empty c = made_is c.format.result (block_none c.args.listed.now 
 
 pub returns : goal.returns
 returns c =
-    let list = c.in-ok-list.ensures in
-    let parts = c.in-ok-parts.ensures in
+    let list = c.in_ok-list.ensures in
+    let parts = c.in_ok-parts.ensures in
     made_is c.format-2.result (block_some c.args.listed.now _ c.if-is_empty.ensures (rw (c.as_slice.ensures.value, parts) at list)) c.format-2.ensures.ok

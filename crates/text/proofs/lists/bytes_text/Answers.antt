@@ -6,4 +6,4 @@ pub returns-then-is_empty : goal.returns-then-is_empty
 returns-then-is_empty c = made_is c.format.result (bytes_none _ c.if-is_empty.ensures) c.format.ensures.ok
 
 pub returns : goal.returns
-returns c = made_is c.format-2.result (bytes_some _ _ c.if-is_empty.ensures c.in-ok-digits.ensures) c.format-2.ensures.ok
+returns c = made_is c.format-2.result (bytes_some _ _ c.if-is_empty.ensures c.in_ok-digits.ensures) c.format-2.ensures.ok

@@ -8,5 +8,5 @@ loop-i-init c = entries_none _ _ c.args.past.now c.new-parts.ensures.items
 pub loop-i-preserved : goal.loop-i-preserved
 unfolding entry_text
 loop-i-preserved c =
-    entries_more _ _ _ _ c.args.past.now c.loop-i.i _ c.loop-i.invariant c.in-ok-push.ensures.items c.loop-i-test.true c.loop-i.auto.i
-    c.in-ok-part.ensures.ok
+    entries_more _ _ _ _ c.args.past.now c.loop-i.i _ c.loop-i.invariant c.in_ok-push.ensures.items c.loop-i-test.true c.loop-i.auto.i
+    c.in_ok-part.ensures.ok

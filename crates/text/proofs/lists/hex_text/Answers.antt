@@ -6,8 +6,8 @@ loop-byte-preserved c =
     hex_more _ _ _ _ _ _ _ c.loop-byte.invariant c.loop-byte-test.true c.digit.ensures.0 c.digit-in-loop-byte.ensures.0
     c.digit.ensures.1
     c.digit-in-loop-byte.ensures.1
-    c.in-ok-push.ensures.bytes
-    c.in-ok-push-2.ensures.bytes
+    c.in_ok-push.ensures.bytes
+    c.in_ok-push-2.ensures.bytes
 
 pub returns : goal.returns
 returns c = hex_all _ _ _ c.loop-byte.invariant c.loop-byte-test.false

@@ -7,6 +7,6 @@ returns-then-is_empty c = made_is c.format.result (past_none c.args.past.now c.i
 
 pub returns : goal.returns
 returns c =
-    let list = c.in-ok-list.ensures in
-    let parts = c.in-ok-parts.ensures in
+    let list = c.in_ok-list.ensures in
+    let parts = c.in_ok-parts.ensures in
     made_is c.format-2.result (past_some c.args.past.now _ c.if-is_empty.ensures (rw (c.as_slice.ensures.value, parts) at list)) c.format-2.ensures.ok
