@@ -4,10 +4,10 @@ use Rattle.text.specs.Meaning.{request_of}
 use Rattle.run_client.specs.Reply.{reply_text}
 use Rattle.run_client.proofs.reply.told.Goals as goal
 
-pub returns-in_ok-from_str : goal.returns-in_ok-from_str
+pub returns-in_ok-from_str-in-May : goal.returns-in_ok-from_str-in-May
 unfolding reply_text request_of
-returns-in_ok-from_str c =
-    λ es. rw c.in-May.is (c.in_ok-from_str.ensures.ok ∙ c.may_text.ensures ∙ ap may_text (c.may_decide-may.ensures es))
+returns-in_ok-from_str-in-May c =
+    λ es. rw c.in-May.is (c.in_ok-from_str-in-May.ensures.ok ∙ c.may_text.ensures ∙ ap may_text (c.may_decide-may.ensures es))
 
 pub returns-in-Past : goal.returns-in-Past
 unfolding request_of
