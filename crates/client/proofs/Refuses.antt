@@ -1,7 +1,7 @@
 -- A client that can't do any event turns each away, so its state stays that of a new client: by 1 what is no event, and by 2 all else.
-use Rattle.std.proofs.Common.{◌≡◌, ℕ, suc, Bool, true, false, eqb, List, [], ◌∷◌, length, Result, sym, refl, ap, ◌∙◌, subst, MatchResult}
+use Rattle.std.proofs.Common.{◌≡◌, ℕ, suc, List, [], ◌∷◌, length, Result, sym, refl, ap, ◌∙◌, subst, MatchResult}
 use Rattle.protocol.specs.Data.{pick}
-use Rattle.protocol.specs.Client.{Event, duty, decided, share, block, resend, garbled, Answer, refused, Limits, State, new_client, state, after, answer, turned, turned_by, good_fields, event_number, place}
+use Rattle.protocol.specs.Client.{Event, duty, decided, share, block, resend, garbled, Answer, refused, Limits, State, new_client, state, after, answer, turned_by, good_fields, event_number, place}
 use Rattle.wire.specs.Fixed.{Written, Unwritten}
 use Rattle.wire.specs.declared.fixed.Short.{Short}
 use Rattle.wire.specs.CodingLemmas.{length_le_bytes}

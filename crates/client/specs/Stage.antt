@@ -1,7 +1,7 @@
 -- What the client of this stage promises: it can't do any event yet, and answers as the definitions say of such a client. Assumes nothing.
 use Rattle.std.specs.Prelude.{◌≡◌, ℕ, zero, suc, Bool, false, List, [], ◌∷◌, length, Some, None, Option, Result, MatchResult}
 use Rattle.protocol.specs.Data.{Data, Past}
-use Rattle.protocol.specs.Client.{Event, Answer, Limits, state, answer, lets_now}
+use Rattle.protocol.specs.Client.{Event, Limits, state, answer, lets_now}
 use Rattle.wire.specs.Fixed.{Written, Unwritten}
 use Rattle.wire.specs.declared.fixed.Short.{Short}
 use Rattle.events.specs.Layout.{parse, answer_bytes}

@@ -1,4 +1,6 @@
 // One client of a group. At this stage it can't do any event yet, and says so to each.
+#![tactic(auto)]
+
 ghost use Rattle.std.specs.Prelude.{◌≡◌, MatchResult};
 ghost use Rattle.protocol.specs.Meaning.{limits_of, FirstWrong};
 ghost use Rattle.protocol.specs.Promise.{GoodLimits};

@@ -1,11 +1,11 @@
 -- After any events the front of a slice holds the stored client, and what a call does with it is what the keeper does.
-use Rattle.std.proofs.Common.{◌≡◌, ℕ, ◌+◌, ◌-◌, ◌<◌, ◌≤◌, Bool, true, false, List, [], ◌∷◌, ◌++◌, length, take, drop, Ok, Err, Result, sym, refl, ap, ◌∙◌, subst, ap₂, arith, take_at, drop_at}
+use Rattle.std.proofs.Common.{◌≡◌, ℕ, ◌-◌, ◌<◌, true, List, ◌∷◌, ◌++◌, length, take, drop, Ok, Err, sym, refl, ap, ◌∙◌, subst, ap₂, arith, take_at, drop_at}
 use borrow.Rule.Slice.PartMut.{put_mid}
 use Rattle.std.proofs.lemmas.Bool.{and_from}
 use Rattle.protocol.specs.Data.{Data}
 use Rattle.protocol.specs.Client.{Event, Answer, Limits, state, answer, lets_now}
 use Rattle.protocol.specs.World.{memory}
-use Rattle.protocol.specs.Promise.{readable, all_readable, GoodLimits, Right}
+use Rattle.protocol.specs.Promise.{readable, all_readable, Right}
 use Rattle.wire.specs.Bytes.{AllBytes}
 use Rattle.wire.specs.Fixed.{Written, Unwritten}
 use Rattle.wire.specs.declared.fixed.Short.{Short}
@@ -17,7 +17,7 @@ use Rattle.stored.specs.Kept.{Held}
 use Rattle.stored.proofs.Regions.{reads_back, has_its_size}
 use Rattle.layout.specs.Layout.{plausible}
 use Rattle.layout.proofs.Passing.{memory_is_plausible, front}
-use Rattle.keeper.specs.Keeper.{keeper, stored_after}
+use Rattle.keeper.specs.Keeper.{stored_after}
 use Rattle.keeper.specs.Ready.{Ready}
 use Rattle.keeper.specs.Step.{step, reply, allows}
 use Rattle.keeper.proofs.FittingMemory.{memory_holds}
@@ -25,8 +25,8 @@ use Rattle.keeper.proofs.Promises.{keeps_its_promises}
 use Rattle.keeper.proofs.Ready.{always_ready}
 use Rattle.keeper.proofs.Simulation.{always_stands}
 use Rattle.stored.specs.Stands.{StandsFor}
-use Rattle.steps.specs.Served.{Served, Serves}
-use Rattle.client_in_memory.specs.Calls.{stage, kept_memory, After, answer_to, Took}
+use Rattle.steps.specs.Served.{Served}
+use Rattle.client_in_memory.specs.Calls.{stage, kept_memory, After, Took}
 use Rattle.client_in_memory.specs.declared.errors.CallError.TheVariants.{ShortAnswer}
 
 module _ (l : Limits) (es : List Event) (xs : List ℕ) (a : After l es xs) where

@@ -1,13 +1,11 @@
 -- A memory that was just made is a new client's.
-use Rattle.std.proofs.Common.{◌≡◌, ℕ, true, List, [], ◌++◌, length, drop, sym, refl, ap, ◌∙◌, drop_at}
-use Rattle.protocol.specs.Client.{Limits}
+use Rattle.std.proofs.Common.{◌≡◌, ℕ, List, [], ◌++◌, length, drop, sym, refl, ap, ◌∙◌, drop_at}
 use Rattle.protocol.specs.World.{memory}
 use Rattle.protocol.specs.Promise.{all_readable, GoodLimits}
 use Rattle.protocol.specs.Meaning.{limits_of}
 use Rattle.protocol.specs.declared.sizes.Limits as declared
-use Rattle.stored.specs.Stored.{sizes_of, fresh}
+use Rattle.stored.specs.Stored.{fresh}
 use Rattle.stored.specs.Numbers.{encode, needed}
-use Rattle.stored.specs.Kept.{GoodSizes}
 use Rattle.stored.proofs.Regions.{has_its_size}
 use Rattle.layout.specs.Layout.{limit_sizes, Opened}
 use Rattle.keeper.specs.Keeper.{keeper}

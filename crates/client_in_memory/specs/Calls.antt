@@ -1,7 +1,7 @@
 -- What the public calls promise: memory is always what the keeper makes of the events so far, and answers are those of the definitions.
 -- Definitions and statements; assumes nothing.
 use Rattle.std.specs.Prelude.{◌≡◌, ℕ, Bool, true, false, List, [], ◌∷◌, ◌++◌, length, take, drop, Ok, Err, Option, Result}
-use Rattle.protocol.specs.Data.{Data, Past}
+use Rattle.protocol.specs.Data.{Data}
 use Rattle.protocol.specs.Client.{Event, Limits, state, answer, lets_now}
 use Rattle.protocol.specs.World.{memory}
 use Rattle.protocol.specs.Promise.{all_readable, GoodLimits, thin}

@@ -1,4 +1,6 @@
 // One client of a group: opened on lent memory, it takes events and answers them, and keeps its past.
+#![tactic(auto)]
+
 pub mod calls;
 pub mod errors;
 pub mod session;

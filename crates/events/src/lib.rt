@@ -1,4 +1,6 @@
 // Events and answers, and as bytes.
+#![tactic(auto)]
+
 pub mod answer;
 pub mod answer_reading;
 pub mod answer_writing;

@@ -5,7 +5,7 @@ use Rattle.protocol.specs.Data.{pick, Data, Duty, first_of}
 use Rattle.protocol.specs.Client.{block, does, Limits, State, begun, all_by_slot, ends, ahead_of, has_slot, not_for, still_ahead, by_block, gone, duty_gone, stepped, doing, without_current, signed}
 use Rattle.stored.specs.Stored.{Bank, Stored, with_ahead}
 use Rattle.stored.specs.Stands.{one_more, stored_of, StandsFor}
-use Rattle.keeper.specs.Step.{still_after, bank_after, block_kept, hand_gone, hand_shown, hand, moved, done}
+use Rattle.keeper.specs.Step.{still_after, bank_after, block_kept, hand_gone, hand_shown, moved, done}
 use Rattle.keeper.proofs.Marks.{pick_false}
 use Rattle.keeper.proofs.Sound.{Sound}
 use Rattle.keeper.proofs.Queue.{AtHand, BanksWith, hand_is, some_told, settle_stands}

@@ -7,7 +7,7 @@ use Rattle.safety.proofs.Held.{Held, share_taken, held_with}
 use Rattle.safety.proofs.Picks.{pick_two}
 use Rattle.stored.specs.Stored.{Bank, alike, taken}
 use Rattle.stored.specs.Stands.{stored_of, StandsFor}
-use Rattle.keeper.specs.Step.{hand, limits_in, settled, put_share, moved, done}
+use Rattle.keeper.specs.Step.{limits_in, settled, put_share, moved, done}
 use Rattle.keeper.proofs.Marks.{duties_more, duties_both, duties_last}
 use Rattle.keeper.proofs.Banks.{rearranged, taken_holds}
 use Rattle.keeper.proofs.Cells.{cells_none, cell_none}

@@ -1,9 +1,9 @@
 -- What a stored client does with each event: the definitions' steps, told of banks in the place of the list of shares that came.
 -- Assumes nothing: these are definitions. That they do what the definitions say is `Right` of the keeper made of them (Keeper.antt).
-use Rattle.std.specs.Prelude.{ℕ, zero, suc, Bool, true, false, ◌&&◌, ◌||◌, List, [], ◌∷◌, ◌++◌, map, length, drop, replicate, ◌==◌, nat_le, nat_lt, slice_index_or, slice_set}
-use Rattle.protocol.specs.Data.{pick, Data, Past, past_of, Duty, keep, first_of, quorum}
-use Rattle.protocol.specs.Client.{Share, Event, duty, decided, share, block, resend, garbled, Answer, refused, does, Limits, event_number, ahead_of, has_slot, without, all_by_slot, above, twice, not_for, shares_not_for, ends, begun, begun_if, share_of, own_with, for_some, good_fields, place, sends_decided, some_valid}
-use Rattle.stored.specs.Stored.{Cell, empty, holds, Bank, Sizes, Stored, free_bank, place_of, bank_at, with_cells, taken, freed, is_empty, alike, with_at_hand, with_past, with_queue, with_own, with_banks}
+use Rattle.std.specs.Prelude.{ℕ, zero, suc, Bool, false, ◌&&◌, ◌||◌, List, [], ◌∷◌, ◌++◌, map, length, drop, replicate, ◌==◌, nat_le, nat_lt, slice_index_or, slice_set}
+use Rattle.protocol.specs.Data.{pick, Data, past_of, Duty, keep, first_of, quorum}
+use Rattle.protocol.specs.Client.{Share, Event, duty, decided, share, block, resend, garbled, Answer, refused, does, Limits, event_number, ahead_of, has_slot, without, all_by_slot, above, twice, not_for, shares_not_for, ends, begun, begun_if, own_with, for_some, good_fields, place, sends_decided, some_valid}
+use Rattle.stored.specs.Stored.{Cell, empty, holds, Bank, Stored, free_bank, place_of, bank_at, with_cells, taken, freed, is_empty, alike, with_at_hand, with_past, with_queue, with_own, with_banks}
 
 -- the limits of a client that can do the events of `can`
 abbrev pub limits_in : (ℕ → Bool) → Stored → Limits

@@ -1,4 +1,6 @@
 // The client as steps over what its memory holds, and what is promised of it: each function's contract is a theorem.
+#![tactic(auto)]
+
 ghost use Rattle.keeper.specs.Keeper.{MemoryHolds, KeepsItsPromises};
 ghost use Rattle.keeper.specs.Ready.{AlwaysReady};
 

@@ -1,5 +1,5 @@
 -- The memory of a new client is its header and zeros.
-use Rattle.std.proofs.Common.{◌≡◌, ℕ, zero, suc, ◌+◌, ◌-◌, ◌*◌, ◌<◌, ◌≤◌, List, [], ◌∷◌, ◌++◌, map, length, take, drop, set, replicate, sym, refl, ap, ◌∙◌, subst, ap₂, append-nil, mul-zero, mul-suc, arith, length-take}
+use Rattle.std.proofs.Common.{◌≡◌, ℕ, zero, suc, ◌+◌, ◌-◌, ◌*◌, ◌≤◌, List, [], ◌∷◌, ◌++◌, map, length, take, drop, set, replicate, sym, refl, ap, ◌∙◌, subst, ap₂, append-nil, mul-zero, mul-suc, arith, length-take}
 use borrow.Rule.Slice.PartMut.{put_mid}
 use lib.ListN.{replicate-append-replicate}
 use Rattle.rows.specs.Rows.{flat, laid}

@@ -1,6 +1,6 @@
 -- Where the regions of a client's memory lie, what a memory's header must say, and what memory is like after opening.
 -- Assumes nothing: these are definitions and statements.
-use Rattle.std.specs.Prelude.{◌≡◌, ℕ, ◌+◌, ◌*◌, ◌<◌, ◌≤◌, Bool, true, ◌&&◌, List, [], ◌++◌, length, drop, ◌==◌, nat_le, nat_lt, slice_index}
+use Rattle.std.specs.Prelude.{◌≡◌, ℕ, ◌+◌, ◌*◌, ◌≤◌, Bool, true, ◌&&◌, List, ◌++◌, length, drop, ◌==◌, nat_le, nat_lt, slice_index}
 use Rattle.protocol.specs.Meaning.{FirstWrong}
 use Rattle.protocol.specs.declared.sizes.Limits.{Limits}
 use Rattle.stored.specs.Stored.{Sizes, Stored, fresh}

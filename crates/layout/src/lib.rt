@@ -1,4 +1,6 @@
 // A client's memory: a header, and regions one after another. Where they lie follows from the sizes in the header.
+#![tactic(auto)]
+
 pub mod fields;
 pub mod header;
 pub mod layout;

@@ -1,4 +1,6 @@
 // Requests and limits read from lines, and the bytes of a request.
+#![tactic(auto)]
+
 pub mod errors;
 mod parsing;
 pub mod reading;

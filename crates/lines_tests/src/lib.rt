@@ -1,3 +1,5 @@
+#![tactic(auto)]
+
 // Lines by example: each form as it is read and printed, and each kind of bad line.
 #[cfg(test)]
 mod answers;

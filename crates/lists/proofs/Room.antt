@@ -1,5 +1,5 @@
 -- Places of entries in numbers: they fit, and are within the region.
-use Rattle.std.proofs.Common.{◌≡◌, ℕ, suc, ◌+◌, ◌*◌, ◌<◌, ◌≤◌, mul-le-mul_left, mul-suc, arith}
+use Rattle.std.proofs.Common.{ℕ, ◌+◌, ◌*◌, ◌<◌, ◌≤◌, mul-le-mul_left, mul-suc, arith}
 
 -- the entry at a place ends within the region
 pub entry_fits : (w m n k : ℕ) → m < n → 1 + w * n ≤ k → 1 + w * m + w ≤ k

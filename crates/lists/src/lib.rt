@@ -1,5 +1,7 @@
 // Lists of entries of one width in a lent slice of numbers: the first number says how many there are, and zeros stand behind them.
 // Each call is safe for any numbers whatever: a count that can't be is taken for the most that there is room for.
+#![tactic(auto)]
+
 ghost use Rattle.std.specs.Prelude.{◌≡◌, ℕ, ◌+◌, ◌*◌, ◌≤◌, List, length};
 ghost use Rattle.lists.specs.Lists.{Region, EntryAt, Long, lent, Inserts, Removes, Replaces, Keeps, first_passing};
 

@@ -1,4 +1,6 @@
 // Values as rows of numbers, as a client's memory holds them: three numbers for a duty, sixteen for data, eighteen for a share.
+#![tactic(auto)]
+
 mod roots;
 mod values;
 

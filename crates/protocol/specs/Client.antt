@@ -1,6 +1,6 @@
 -- What one client does (Ethereum: a node of a distributed validator): its state, and what each event makes of it.
 -- Assumes nothing: these are definitions.
-use Rattle.std.specs.Prelude.{◌≡◌, ℕ, zero, suc, ◌+◌, ◌-◌, ◌*◌, ◌/◌, ◌<◌, ◌≤◌, Bool, true, false, not, ◌&&◌, ◌||◌, List, [], ◌∷◌, ◌++◌, length, ◌==◌, nat_le, nat_lt}
+use Rattle.std.specs.Prelude.{ℕ, suc, Bool, true, false, not, ◌&&◌, ◌||◌, List, [], ◌∷◌, ◌++◌, length, ◌==◌, nat_le, nat_lt}
 use Rattle.protocol.specs.Data.{pick, Data, same, Past, past_of, Duty, valid, keep, first_of, quorum}
 
 -- a share (Ethereum: an attestation share): who signed, what, and the seat that it speaks for

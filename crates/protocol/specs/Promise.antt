@@ -1,8 +1,8 @@
 -- What is promised. Each is a statement, a type whose proof is owed. Assumes nothing.
-use Rattle.std.specs.Prelude.{◌≡◌, ℕ, zero, suc, ◌+◌, ◌-◌, ◌*◌, ◌/◌, ◌<◌, ◌≤◌, Bool, true, false, not, ◌&&◌, ◌||◌, ◌≢◌, ◌⊎◌, List, [], ◌∷◌, ◌++◌, length, nat_le, nat_lt}
-use Rattle.protocol.specs.Data.{pick, Data, same, punished, Past, past_of, clashes, clash, unsafe, Duty, into, first_of, quorum, bad_at_most}
+use Rattle.std.specs.Prelude.{◌≡◌, ℕ, ◌+◌, ◌*◌, ◌<◌, ◌≤◌, Bool, true, false, not, ◌&&◌, ◌⊎◌, List, [], ◌∷◌, length, nat_le, nat_lt}
+use Rattle.protocol.specs.Data.{Data, punished, Past, past_of, clashes, unsafe, Duty, first_of, quorum, bad_at_most}
 use Rattle.protocol.specs.Client.{Share, Event, duty, decided, share, block, resend, garbled, Answer, refused, does, Limits, State, state, turned, answer, after, lets_now}
-use Rattle.protocol.specs.World.{Keeper, Group, limits, how_many, World, memory, sends, whole, Lived, good, In}
+use Rattle.protocol.specs.World.{Keeper, Group, limits, how_many, World, memory, whole, Lived, good, In}
 
 -- events that their bytes can carry: clients in a byte, slots, epochs, committees and seats in eight, roots in thirty-two
 abbrev pub eight : ℕ → Bool

@@ -1,7 +1,7 @@
 -- Clients of one group, the lines between them, those that are bad (Ethereum: the adversary), and everything that can happen.
 -- Assumes nothing: these are definitions.
-use Rattle.std.specs.Prelude.{◌≡◌, ℕ, zero, suc, ◌+◌, ◌-◌, ◌*◌, ◌/◌, ◌<◌, ◌≤◌, Bool, true, false, not, ◌&&◌, ◌||◌, ◌≢◌, ◌⊎◌, List, [], ◌∷◌, ◌++◌, length, ◌==◌, nat_le}
-use Rattle.protocol.specs.Data.{pick, Data, same, Past, Duty, quorum, bad_at_most}
+use Rattle.std.specs.Prelude.{◌≡◌, ℕ, zero, suc, ◌+◌, ◌<◌, Bool, true, false, not, ◌&&◌, ◌||◌, ◌⊎◌, List, [], ◌∷◌, ◌++◌, ◌==◌, nat_le}
+use Rattle.protocol.specs.Data.{pick, Data, same, Duty, quorum}
 use Rattle.protocol.specs.Client.{Share, Event, duty, decided, share, block, resend, garbled, Answer, refused, does, Limits}
 
 -- a client as a program: its memory, which is numbers; what an event leaves there; what it does then; and what it lets the deciding come to

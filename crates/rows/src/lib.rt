@@ -1,5 +1,7 @@
 // Entries of one width in a lent slice of numbers: one is put in, one is cut out, or those that pass are kept.
 // Places are counted in numbers, so that nothing is multiplied; each contract also says what this means for entries, whatever their width.
+#![tactic(auto)]
+
 ghost use Rattle.std.specs.Prelude.{◌≡◌, ℕ, ◌+◌, ◌-◌, ◌*◌, ◌≤◌, Bool, List, length};
 ghost use Rattle.rows.specs.Rows.{RegionsStayLaid, rows, inserted, removed, kept, put_cells, cut_cells, kept_cells};
 

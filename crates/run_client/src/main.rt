@@ -1,4 +1,6 @@
 // Plays one client over files of lines, and prints its answer to each.
+#![tactic(auto)]
+
 mod play;
 mod reply;
 mod trouble;

@@ -3,7 +3,7 @@
 use Rattle.std.proofs.Common.{◌≡◌, ℕ, suc, ◌≤◌, true, false, eqb, ltb, List, [], ◌∷◌, ◌++◌, sym, refl, ap, ◌∙◌, subst, arith}
 use Rattle.std.proofs.lemmas.Bool.{ltb-false, eqb-true, lt-ltb, and_parts, and_from, both_ways}
 use Rattle.protocol.specs.Data.{pick, Data, Duty, first_of, into}
-use Rattle.protocol.specs.Client.{Event, duty, decided, share, block, resend, garbled, Answer, refused, Limits, State, turned, turned_by, good_fields, event_number, place, begun, begun_if, next, learned, begin_or_wait, ahead_of, has_slot, told, by_block, gone, duty_gone, by_decided, sends_decided, own_with, stepped, doing, answer, after, state, signed, without_current, with_after}
+use Rattle.protocol.specs.Client.{Event, duty, decided, share, block, resend, garbled, Answer, refused, Limits, State, turned, turned_by, good_fields, event_number, place, begun, begun_if, next, learned, begin_or_wait, ahead_of, has_slot, told, by_block, gone, duty_gone, by_decided, sends_decided, own_with, stepped, doing, answer, state, signed, without_current, with_after}
 use Rattle.protocol.specs.Promise.{all_before}
 use Rattle.protocol.specs.Runs.{begins, all_begun, rising}
 use Rattle.safety.specs.Queues.{newest_last, newest_first, stepped_with, doing_with, after_with, answer_with, state_with, all_begun_with, BegunInOrderWith, NewestFirstFails}

@@ -4,7 +4,7 @@
 use Rattle.std.proofs.Common.{◌≡◌, ℕ, suc, ◌<◌, ◌≤◌, Bool, ◌&&◌, ◌||◌, eqb, ltb, ◌⊎◌, List, [], ◌∷◌, ◌++◌, length, refl, subst, inl, inr, ⊎_elim, arith}
 use Rattle.std.proofs.lemmas.Bool.{ltb-true, ltb-false, and_parts}
 use Rattle.protocol.specs.Data.{pick, Data, Duty}
-use Rattle.protocol.specs.Client.{Share, Event, duty, decided, share, block, resend, garbled, Limits, State, event_number, ahead_of, has_slot, learned, begin_or_wait, next, good_fields, turned_by, turned, signed, with_own, with_after, without_current, told, still_ahead, by_block, gone, duty_gone, after}
+use Rattle.protocol.specs.Client.{Share, Event, duty, decided, share, block, resend, garbled, Limits, State, event_number, ahead_of, has_slot, learned, begin_or_wait, next, good_fields, turned_by, turned, signed, with_own, with_after, without_current, told, still_ahead, by_block, gone, duty_gone}
 use Rattle.protocol.specs.Refusals.{Member}
 use Rattle.safety.proofs.Basics.{member_first, member_without, member_ahead, member_told, member_not_for, member_still}
 use Rattle.safety.proofs.Picks.{pick_both}

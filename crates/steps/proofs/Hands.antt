@@ -1,13 +1,13 @@
 -- The duty at hand once the queue was looked at: the same as before, or else the first that wasn't ahead.
-use Rattle.std.proofs.Common.{◌≡◌, ℕ, zero, suc, ◌<◌, ◌≤◌, Bool, true, false, ◌||◌, eqb, List, [], ◌∷◌, ◌++◌, length, sym, refl, ap, ◌∙◌, ap₂, ⊎_elim, arith}
+use Rattle.std.proofs.Common.{◌≡◌, ℕ, zero, suc, ◌<◌, ◌≤◌, true, false, ◌||◌, eqb, List, [], ◌∷◌, sym, refl, ap, ◌∙◌, ap₂, ⊎_elim, arith}
 use Rattle.std.specs.List.{AllByRecursion as All}
-use Rattle.std.proofs.lemmas.Bool.{ne_eqb, eqb-true, eqb-false, cases_Bool}
+use Rattle.std.proofs.lemmas.Bool.{ne_eqb, eqb-true, cases_Bool}
 use Rattle.protocol.specs.Data.{pick, Data, Duty, first_of}
 use Rattle.protocol.specs.Client.{has_slot, ahead_of, without, begun}
 use Rattle.stored.specs.Stored.{Stored, with_queue}
 use Rattle.keeper.specs.Ready.{Ascending, duty_slots}
 use Rattle.keeper.specs.Step.{hand, learnt, start_or_wait, settle}
-use Rattle.steps.specs.Queue.{upcoming, skipped, first_begun}
+use Rattle.steps.specs.Queue.{upcoming, first_begun}
 use Rattle.steps.proofs.Skipping.{settle_is, skipped_queue}
 
 -- the queue that is written down does not matter

@@ -1,8 +1,8 @@
 -- What the deciding has come to: for the duty at hand it is signed, and for any other slot nothing happens.
-use Rattle.std.proofs.Common.{◌≡◌, ℕ, suc, ◌<◌, ◌≤◌, Bool, true, false, ◌&&◌, ◌||◌, eqb, List, [], ◌∷◌, length, take, drop, sym, refl, ap, ◌∙◌, ap₂, arith}
+use Rattle.std.proofs.Common.{◌≡◌, ℕ, ◌≤◌, Bool, true, false, ◌&&◌, eqb, List, [], ◌∷◌, length, take, drop, sym, refl, ap, ◌∙◌, ap₂, arith}
 use Rattle.std.proofs.lemmas.Bool.{eq-eqb, ne_eqb}
 use Rattle.protocol.specs.Data.{pick, Data, Duty, first_of}
-use Rattle.protocol.specs.Client.{Share, Limits, decided, does, good_fields, event_number, sends_decided, begun_if, own_with}
+use Rattle.protocol.specs.Client.{Share, decided, does, good_fields, event_number, sends_decided, begun_if, own_with}
 use Rattle.past.proofs.Laws.{first_of_is}
 use Rattle.stored.specs.Stored.{Stored, with_own, with_at_hand}
 use Rattle.keeper.specs.Ready.{Ready}

@@ -1,14 +1,14 @@
 -- Events that are turned away whatever the client holds: bytes that are none, and events that it can't do.
-use Rattle.std.proofs.Common.{◌≡◌, ℕ, ◌-◌, ◌<◌, ◌≤◌, Bool, true, false, ◌&&◌, ◌||◌, List, [], ◌∷◌, length, take, drop, sym, refl, ap, ◌∙◌, subst, arith}
+use Rattle.std.proofs.Common.{◌≡◌, ℕ, ◌-◌, ◌≤◌, Bool, List, [], ◌∷◌, length, take, drop, sym, refl, ap, ◌∙◌, arith}
 use Rattle.std.proofs.lemmas.List.{take_all}
 use Rattle.protocol.specs.Data.{pick, Data}
-use Rattle.protocol.specs.Client.{Share, Event, share, block, resend, garbled, event_number, good_fields}
+use Rattle.protocol.specs.Client.{Share, share, block, resend, garbled, event_number, good_fields}
 use Rattle.protocol.specs.Promise.{thin}
 use Rattle.wire.specs.Bytes.{share_from}
 use Rattle.events.specs.Layout.{parse}
 use Rattle.stored.specs.Stored.{Stored}
 use Rattle.keeper.specs.Step.{refusal, refused_by}
-use Rattle.steps.proofs.Parsing.{Whole, share_whole, empty_is_none}
+use Rattle.steps.proofs.Parsing.{share_whole, empty_is_none}
 
 pub garbled_refused : (can : ℕ → Bool) (t : Stored) (n : ℕ) → refusal can t (garbled n) ≡ 1
 unfolding event_number good_fields refused_by pick

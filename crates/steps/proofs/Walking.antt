@@ -1,10 +1,9 @@
 -- The walk of what is ahead beside the queue: where it stands, and what each turn does.
-use Rattle.std.proofs.Common.{◌≡◌, ℕ, zero, suc, ◌+◌, ◌-◌, ◌<◌, ◌≤◌, true, false, List, [], ◌∷◌, ◌++◌, length, take, drop, sym, refl, ap, ◌∙◌, subst, arith}
+use Rattle.std.proofs.Common.{◌≡◌, ℕ, zero, suc, ◌+◌, ◌-◌, ◌<◌, ◌≤◌, List, [], ◌∷◌, length, take, drop, sym, refl, ap, ◌∙◌, subst, arith}
 use Rattle.std.specs.List.{AllByRecursion as All}
-use Rattle.std.proofs.ByRecursion.{All-weaker}
 use Rattle.std.proofs.lemmas.List.{drop_all}
 use Rattle.protocol.specs.Data.{Data, Duty}
-use Rattle.protocol.specs.Client.{slots, has_slot, without}
+use Rattle.protocol.specs.Client.{slots}
 use Rattle.stored.specs.Stored.{Sizes, Stored, with_queue}
 use Rattle.stored.specs.Kept.{Held}
 use Rattle.keeper.specs.Ready.{Ascending, duty_slots}

@@ -1,4 +1,6 @@
 // What a client does with each event, over its memory.
+#![tactic(auto)]
+
 mod answers;
 mod asking;
 mod decided;

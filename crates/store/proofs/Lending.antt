@@ -1,5 +1,5 @@
 -- A list of a client as its region of the whole memory is lent and written anew: said once for the five lists.
-use Rattle.std.proofs.Common.{◌≡◌, ℕ, ◌-◌, ◌<◌, ◌≤◌, Bool, List, [], map, length, get_or, take, drop, set, sym, refl, ap, ◌∙◌, arith, length-take}
+use Rattle.std.proofs.Common.{◌≡◌, ℕ, ◌-◌, ◌<◌, ◌≤◌, Bool, List, [], map, length, get_or, take, drop, set, sym, ap, ◌∙◌, arith, length-take}
 use borrow.Rule.Slice.PartMut.{put_mid}
 use Rattle.std.proofs.lemmas.List.Edits.{length-remove}
 use Rattle.rows.specs.Rows.{inserted, removed, kept}

@@ -1,5 +1,5 @@
 -- The past in its region: read as it is lent, and with one entry more.
-use Rattle.std.proofs.Common.{◌≡◌, ℕ, suc, ◌+◌, ◌-◌, ◌*◌, ◌≤◌, List, [], ◌∷◌, map, length, take, drop, set, sym, refl, ap, ◌∙◌, ap₂, arith, length-take, drop-drop}
+use Rattle.std.proofs.Common.{◌≡◌, ℕ, ◌+◌, ◌-◌, ◌≤◌, List, ◌∷◌, map, length, take, drop, set, sym, refl, ap, ◌∙◌, arith, length-take, drop-drop}
 use borrow.Rule.Slice.PartMut.{put_mid}
 use Rattle.std.proofs.lemmas.List.{length-map, drop-take}
 use Rattle.protocol.specs.Data.{Past, into, keep}

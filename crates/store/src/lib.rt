@@ -1,5 +1,7 @@
 // A client's lists in its memory: the queue, what is being decided, what is ahead, own shares, the past.
 // Each call lends one region, is safe for any numbers whatever, and says what it does to a memory that holds a client; all else stays as it was.
+#![tactic(auto)]
+
 pub mod duties;
 pub mod history;
 pub mod kinds;

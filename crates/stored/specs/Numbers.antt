@@ -1,7 +1,7 @@
 -- The numbers of a client's memory: a header, and one region after another, each list with its count before it and zeros behind.
 -- Assumes nothing: these are definitions.
 use Rattle.std.specs.Prelude.{ℕ, ◌+◌, ◌*◌, ◌/◌, ◌%◌, List, [], ◌∷◌, ◌++◌, map, length, take, drop, replicate, ◌==◌, slice_index, slice_index_or}
-use Rattle.protocol.specs.Data.{pick, Data, Past, Duty}
+use Rattle.protocol.specs.Data.{pick, Data, Duty}
 use Rattle.protocol.specs.Client.{Share}
 use Rattle.rows.specs.Rows.{rows, flat, laid}
 use Rattle.past.specs.Past.{entry_of, row_of}

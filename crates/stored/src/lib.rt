@@ -1,4 +1,6 @@
 // What a client's memory holds, as lists, and its numbers: the definitions stand in specs/, and each function here has a theorem on them for its contract.
+#![tactic(auto)]
+
 ghost use Rattle.stored.specs.Kept.{ReadsBack, HasItsSize, NumbersFit};
 ghost use Rattle.stored.specs.Stands.{FreshStands};
 

@@ -1,5 +1,5 @@
 -- The lines of requests, by their variants.
-use Rattle.std.proofs.Common.{◌≡◌, ℕ, List, ◌++◌, map, vec_items, codes, decimal, Vec, refl}
+use Rattle.std.proofs.Common.{◌≡◌, ℕ, List, ◌++◌, map, vec_items, codes, decimal, Vec}
 use Rattle.std.specs.declared.alloc.Global.{Global}
 use Rattle.wire.specs.Meaning.{data_of, duty_of, share_of}
 use Rattle.wire.specs.declared.values.Data.{Data}

@@ -1,5 +1,7 @@
 mod Asks
+mod Doings
 mod Joined
+mod Listings
 mod Made
 mod RootLaws
 mod Roots

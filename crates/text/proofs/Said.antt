@@ -1,5 +1,5 @@
 -- Data, duties and shares, as the code writes them.
-use Rattle.std.proofs.Common.{◌≡◌, ℕ, true, false, eqb, List, ◌++◌, codes, decimal, refl}
+use Rattle.std.proofs.Common.{◌≡◌, ℕ, true, false, eqb, List, ◌++◌, codes, decimal}
 use Rattle.std.proofs.lemmas.Bool.{ne_eqb}
 use Rattle.wire.specs.Meaning.{root_of, data_of, duty_of, share_of}
 use Rattle.wire.specs.declared.values.Data.{Data}

@@ -2,5 +2,4 @@ pub mod Laws
 pub mod Text
 pub mod Meaning
 pub mod Short
-pub mod Doings
-pub mod Listings
+pub mod Told

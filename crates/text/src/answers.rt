@@ -6,7 +6,7 @@ ghost use Rattle.events.specs.declared.row.Row.{Row};
 ghost use Rattle.events.specs.Meaning.{answer_of, row_shares, row_data, row_duties, row_slots};
 ghost use Rattle.text.specs.Short.{ShortRow, ShortRows, ShortAnswer, IfCut};
 ghost use Rattle.text.specs.Text.{sends_text, hands_in_text, begins_text, ends_text, done_texts, done_text, answer_text};
-ghost use Rattle.text.specs.Doings.{shares_told, data_told, duties_told, slots_told};
+ghost use Rattle.text.specs.Told.{shares_told, data_told, duties_told, slots_told};
 
 use crate::errors::AnswerError;
 use crate::lists::join;

@@ -1,4 +1,6 @@
 // The text of the programs: requests, limits, answers and the past as they are printed.
+#![tactic(auto)]
+
 pub mod answers;
 pub mod errors;
 pub mod laws;

@@ -1,5 +1,5 @@
 -- A byte, and eight bytes, as a number: as they are read one by one, and as they are written.
-use Rattle.std.proofs.Common.{◌≡◌, ℕ, suc, ◌+◌, ◌-◌, ◌*◌, ◌/◌, ◌%◌, ◌<◌, ◌≤◌, List, [], ◌∷◌, ◌++◌, length, get_or, take, drop, set, refl, arith, drop-cons, drop-drop}
+use Rattle.std.proofs.Common.{◌≡◌, ℕ, suc, ◌+◌, ◌-◌, ◌*◌, ◌/◌, ◌%◌, ◌<◌, ◌≤◌, List, [], ◌∷◌, length, get_or, take, drop, set, refl, arith, drop-cons, drop-drop}
 use native.Mathlib.Nat.{div-div-eq-div-mul}
 use lib.Seq.{set_split}
 use borrow.Rule.Slice.PartMut.{put_mid}

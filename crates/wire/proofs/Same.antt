@@ -31,7 +31,7 @@ roots_same false a b a1 a2 a3 b1 b2 b3 h = sym (ne_eqb (root_of a) (root_of b) (
         let two = low_high a.second b.second _ _ a2 b2 one.1 in
         let three = low_high a.third b.third a.fourth b.fourth a3 b3 two.1 in
         let all : (eqb a.first b.first && (eqb a.second b.second && (eqb a.third b.third && eqb a.fourth b.fourth))) ≡ true =
-            and_from _ _ (eq-eqb a.first b.first one.0) (and_from _ _ (eq-eqb a.second b.second two.0) (and_from _ _ (eq-eqb a.third b.third three.0) (eq-eqb a.fourth b.fourth three.1))) in
+        and_from _ _ (eq-eqb a.first b.first one.0) (and_from _ _ (eq-eqb a.second b.second two.0) (and_from _ _ (eq-eqb a.third b.third three.0) (eq-eqb a.fourth b.fourth three.1))) in
         false≢true (h ∙ all)
 
 -- the tests of the fields, in the order of the fields, are those of the definition

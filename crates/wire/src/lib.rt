@@ -1,4 +1,6 @@
 // Data, duties and shares by value, and as bytes.
+#![tactic(auto)]
+
 pub mod fixed;
 pub mod layouts;
 pub mod numbers;

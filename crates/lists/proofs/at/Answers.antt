@@ -1,5 +1,5 @@
 -- The entry, or none.
-use Rattle.std.proofs.Common.{◌≡◌, ◌+◌, ◌*◌, ◌≤◌, length, take, drop, sym, refl, ap, arith, length-drop, length-take}
+use Rattle.std.proofs.Common.{◌+◌, ◌*◌, length, take, sym, refl, ap, arith, length-drop, length-take}
 use Rattle.std.proofs.lemmas.List.{drop_all}
 use Rattle.lists.proofs.Room.{entry_fits}
 use Rattle.lists.proofs.Regions.{entry_there}

@@ -1,5 +1,5 @@
 -- The entry passes, or the walk goes on.
-use Rattle.std.proofs.Common.{◌≡◌, ◌+◌, ◌-◌, ◌*◌, ◌<◌, ◌≤◌, length, sym, ap, ◌∙◌, mul-zero, mul-suc, add-one, arith}
+use Rattle.std.proofs.Common.{◌≡◌, ◌*◌, length, sym, ap, ◌∙◌, mul-zero, mul-suc, add-one, arith}
 use Rattle.lists.proofs.Room.{entry_fits}
 use Rattle.lists.proofs.Finding.{none_passed, passes_here, passes_later, none_left}
 use Rattle.lists.proofs.find.Goals as goal

@@ -1,6 +1,5 @@
 -- The entry has its place, or there is no room for it.
-use Rattle.std.proofs.Common.{◌≡◌, ◌+◌, ◌-◌, ◌*◌, ◌<◌, ◌≤◌, min, length, ap, ◌∙◌, ⊎_elim, arith, length-drop, length-take}
-use Rattle.rows.specs.Rows.{put_cells}
+use Rattle.std.proofs.Common.{◌-◌, min, length, ap, ◌∙◌, ⊎_elim, arith, length-drop, length-take}
 use Rattle.lists.proofs.Room.{entry_fits, starts_before}
 use Rattle.lists.proofs.Regions.{inserts, inserts_none}
 use Rattle.lists.proofs.insert.Goals as goal

@@ -1,6 +1,5 @@
 -- Those that pass stay.
-use Rattle.std.proofs.Common.{◌≡◌, ◌+◌, ◌-◌, ◌*◌, ◌<◌, ◌≤◌, length, take, drop, ap, ◌∙◌, arith, length-drop, length-take}
-use Rattle.rows.specs.Rows.{rows, kept, kept_cells}
+use Rattle.std.proofs.Common.{◌-◌, length, arith, length-drop, length-take}
 use Rattle.lists.proofs.Room.{front_fits}
 use Rattle.lists.proofs.Regions.{keeps}
 use Rattle.lists.proofs.keep.Goals as goal

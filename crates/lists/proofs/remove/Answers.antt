@@ -1,6 +1,5 @@
 -- The entry goes, or there is none at the place.
-use Rattle.std.proofs.Common.{◌≡◌, ◌+◌, ◌-◌, ◌*◌, ◌<◌, ◌≤◌, length, ap, ◌∙◌, arith, length-drop, length-take}
-use Rattle.rows.specs.Rows.{cut_cells}
+use Rattle.std.proofs.Common.{◌-◌, length, arith, length-drop, length-take}
 use Rattle.lists.proofs.Room.{front_fits, ends_before}
 use Rattle.lists.proofs.Regions.{removes}
 use Rattle.lists.proofs.remove.Goals as goal

@@ -1,5 +1,5 @@
 -- The numbers of the entry are written over, or there is none at the place.
-use Rattle.std.proofs.Common.{◌≡◌, ◌+◌, ◌-◌, ◌*◌, ◌<◌, ◌≤◌, length, arith}
+use Rattle.std.proofs.Common.{length, arith}
 use Rattle.lists.proofs.Room.{entry_fits}
 use Rattle.lists.proofs.Regions.{replaces}
 use Rattle.lists.proofs.replace.Goals as goal

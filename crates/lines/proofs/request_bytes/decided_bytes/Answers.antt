@@ -1,4 +1,3 @@
-use Rattle.protocol.specs.Client.{decided}
 use Rattle.events.specs.Layout.{event_bytes}
 use Rattle.lines.proofs.request_bytes.decided_bytes.Goals as goal
 

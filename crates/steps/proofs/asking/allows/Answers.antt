@@ -1,5 +1,5 @@
 -- Each duty lets it or doesn't.
-use Rattle.std.proofs.Common.{◌≡◌, sym, refl, ap, ◌∙◌, arith}
+use Rattle.std.proofs.Common.{sym, ap, ◌∙◌, arith}
 use Rattle.wire.specs.Meaning.{data_of, duty_of}
 use Rattle.steps.proofs.Letting.{lets_none, lets_ends, lets_other, lets_not, lets_it}
 use Rattle.steps.proofs.asking.allows.Goals as goal

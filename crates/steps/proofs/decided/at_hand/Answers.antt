@@ -1,5 +1,5 @@
 -- None, another one, or that one.
-use Rattle.std.proofs.Common.{◌≡◌, arith}
+use Rattle.std.proofs.Common.{arith}
 use Rattle.wire.specs.Meaning.{duty_of}
 use Rattle.steps.proofs.Signing.{hand_none, hand_empty, hand_other, hand_that}
 use Rattle.steps.proofs.decided.at_hand.Goals as goal

@@ -1,5 +1,5 @@
 -- Nothing happens, or it is signed.
-use Rattle.std.proofs.Common.{◌≡◌, ℕ, List, [], ◌∷◌, sym, ap, ◌∙◌, subst}
+use Rattle.std.proofs.Common.{ℕ, List, [], ◌∷◌, sym, ap, ◌∙◌, subst}
 use Rattle.protocol.specs.Data.{Data, Duty, first_of}
 use Rattle.protocol.specs.Client.{Share, decided, does, own_with}
 use Rattle.wire.specs.Meaning.{data_of, duty_of, share_of}

@@ -1,6 +1,5 @@
 -- One call after another.
 use Rattle.wire.specs.Meaning.{data_of, share_of}
-use Rattle.steps.specs.Orderly.{Orderly}
 use Rattle.steps.proofs.Giving.{ready_orderly}
 use Rattle.steps.proofs.decided.sign.Goals as goal
 

@@ -1,5 +1,5 @@
 -- One at hand, one that waits, or this one.
-use Rattle.std.proofs.Common.{◌≡◌, [], ◌∷◌, ◌++◌, sym, ap, ◌∙◌, arith}
+use Rattle.std.proofs.Common.{[], ◌∷◌, ◌++◌, sym, ap, ◌∙◌, arith}
 use Rattle.protocol.specs.Data.{pick, Duty}
 use Rattle.wire.specs.Meaning.{duty_of, data_of}
 use Rattle.steps.specs.Queue.{upcoming}

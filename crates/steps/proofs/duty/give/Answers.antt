@@ -1,5 +1,5 @@
 -- One call after another.
-use Rattle.std.proofs.Common.{◌≡◌, ℕ, List, [], ◌∷◌, ◌++◌, ap, ◌∙◌, subst, arith}
+use Rattle.std.proofs.Common.{ℕ, List, [], ◌∷◌, ◌++◌, ap, ◌∙◌, subst, arith}
 use Rattle.protocol.specs.Data.{Duty}
 use Rattle.wire.specs.Meaning.{duty_of}
 use Rattle.stored.specs.Stored.{Stored, with_after, with_banks, with_queue, taken}

@@ -1,5 +1,5 @@
 -- Turned away, or taken.
-use Rattle.std.proofs.Common.{◌≡◌, [], refl, arith}
+use Rattle.std.proofs.Common.{[], refl, arith}
 use Rattle.protocol.specs.Client.{duty, does, place}
 use Rattle.wire.specs.Meaning.{duty_of}
 use Rattle.layout.specs.Layout.{sizes}

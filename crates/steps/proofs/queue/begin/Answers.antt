@@ -1,5 +1,5 @@
 -- One call after another; what is driven out is freed first.
-use Rattle.std.proofs.Common.{◌≡◌, ℕ, suc, ◌≤◌, List, [], ◌∷◌, length, drop, sym, ap, ◌∙◌, subst, arith}
+use Rattle.std.proofs.Common.{◌≡◌, ℕ, suc, ◌≤◌, List, [], ◌∷◌, drop, ap, ◌∙◌, subst, arith}
 use Rattle.protocol.specs.Data.{Duty, first_of}
 use Rattle.wire.specs.Meaning.{duty_of}
 use Rattle.stored.specs.Stored.{Bank, Stored, with_at_hand, with_latest, with_queue, with_active, with_banks}

@@ -1,5 +1,5 @@
 -- Those that are ahead go, and then the first is begun.
-use Rattle.std.proofs.Common.{◌≡◌, List, sym, ◌∙◌, subst, arith}
+use Rattle.std.proofs.Common.{List, sym, ◌∙◌, subst, arith}
 use Rattle.std.specs.List.{AllByRecursion as All}
 use Rattle.protocol.specs.Data.{Duty}
 use Rattle.wire.specs.Meaning.{duty_of}

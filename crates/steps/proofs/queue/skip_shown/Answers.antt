@@ -1,9 +1,9 @@
 -- Each turn of the walk.
-use Rattle.std.proofs.Common.{◌≡◌, arith}
+use Rattle.std.proofs.Common.{arith}
 use Rattle.wire.specs.Meaning.{duty_of, data_of}
 use Rattle.layout.specs.Layout.{sizes}
 use Rattle.steps.specs.Queue.{skipped}
-use Rattle.steps.proofs.Walking.{walk_starts, walk_empty, walk_fits, walk_some, walk_passed, walk_stops, walk_passes, walk_learns, walk_on, walk_ends}
+use Rattle.steps.proofs.Walking.{walk_starts, walk_fits, walk_some, walk_passed, walk_stops, walk_passes, walk_learns, walk_on, walk_ends}
 use Rattle.steps.proofs.queue.skip_shown.Goals as goal
 
 pub walk-init : goal.walk-init

@@ -1,6 +1,5 @@
 -- A duty that is ahead is passed, and the first that isn't is it.
-use Rattle.std.proofs.Common.{◌≡◌, sym, ap, ◌∙◌, arith}
-use Rattle.protocol.specs.Data.{Duty}
+use Rattle.std.proofs.Common.{sym, ap, ◌∙◌, arith}
 use Rattle.wire.specs.Meaning.{duty_of, data_of}
 use Rattle.steps.proofs.Upcoming.{told_none, told_some, up_none, up_passes, up_stops, up_ends}
 use Rattle.steps.proofs.queue.upcoming.Goals as goal

@@ -1,9 +1,8 @@
 -- Each kind of event.
-use Rattle.std.proofs.Common.{◌≡◌, sym, refl, ap, ◌∙◌, subst, arith}
-use Rattle.protocol.specs.Client.{Event, Share, share, block, resend, garbled, place}
+use Rattle.std.proofs.Common.{sym, refl, ap, ◌∙◌, subst, arith}
+use Rattle.protocol.specs.Client.{Event, block, resend, garbled, place}
 use Rattle.protocol.specs.Promise.{thin}
 use Rattle.wire.specs.Meaning.{share_of}
-use Rattle.events.specs.Layout.{parse}
 use Rattle.events.specs.Meaning.{event_of, row_data}
 use Rattle.events.specs.Reading.{read_as}
 use Rattle.layout.specs.Layout.{sizes}

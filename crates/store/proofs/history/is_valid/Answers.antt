@@ -1,4 +1,4 @@
-use Rattle.std.proofs.Common.{◌≡◌, ◌+◌, ◌≤◌, ap, ◌∙◌, arith}
+use Rattle.std.proofs.Common.{◌+◌, ◌≤◌, ap, ◌∙◌, arith}
 use Rattle.protocol.specs.Data.{valid}
 use Rattle.wire.specs.Meaning.{data_of, duty_of}
 use Rattle.past.specs.Past.{entries}

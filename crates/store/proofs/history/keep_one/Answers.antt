@@ -1,5 +1,4 @@
 use Rattle.past.specs.Past.{entry}
-use Rattle.stored.specs.Numbers.{listed}
 use Rattle.store.proofs.PastList.{one_kept, counted_past}
 use Rattle.store.proofs.history.keep_one.Goals as goal
 

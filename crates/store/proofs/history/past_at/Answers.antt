@@ -1,5 +1,5 @@
 use Rattle.std.proofs.Common.{[], ◌∷◌, take, drop, refl}
-use Rattle.past.specs.Past.{entry, entry_of, row_of}
+use Rattle.past.specs.Past.{entry_of, row_of}
 use Rattle.stored.proofs.Entries.{entry_back}
 use Rattle.layout.specs.Layout.{sizes}
 use Rattle.store.proofs.Lending.{list_entry}

@@ -1,4 +1,4 @@
-use Rattle.std.proofs.Common.{◌≡◌, sym, ap, ◌∙◌, arith}
+use Rattle.std.proofs.Common.{sym, ap, ◌∙◌, arith}
 use Rattle.protocol.specs.Data.{keep}
 use Rattle.past.specs.Past.{entry, row_of}
 use Rattle.stored.specs.Numbers.{listed}

@@ -1,4 +1,4 @@
-use Rattle.std.proofs.Common.{◌≡◌, eqb, [], ◌∷◌, get_or, drop}
+use Rattle.std.proofs.Common.{eqb, get_or, drop}
 use Rattle.store.proofs.Ordered.{first_read, first_none}
 use Rattle.store.proofs.slots.has_slot.Goals as goal
 

@@ -1,4 +1,4 @@
-use Rattle.text.specs.Doings.{at_end, entries_start, entries_step, entries_end}
+use Rattle.text.proofs.Doings.{at_end, entries_start, entries_step, entries_end}
 use Rattle.text.proofs.Shorts.{cut_at, memory_exit}
 use Rattle.text.proofs.answers.add_entries.Goals as goal
 

@@ -1,5 +1,5 @@
 use Rattle.std.proofs.Common.{map, string_bytes, ap, ◌∙◌}
-use Rattle.text.specs.Doings.{refused_line, done_said}
+use Rattle.text.proofs.Doings.{refused_line, done_said}
 use Rattle.text.proofs.Shorts.{cut_exit, memory_exit, rows_cut}
 use Rattle.text.proofs.answers.answer_text.Goals as goal
 

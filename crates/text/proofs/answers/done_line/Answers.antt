@@ -1,4 +1,4 @@
-use Rattle.text.specs.Doings.{done_none, done_some}
+use Rattle.text.proofs.Doings.{done_none, done_some}
 use Rattle.text.proofs.Made.{made_is}
 use Rattle.text.proofs.answers.done_line.Goals as goal
 

@@ -1,5 +1,5 @@
 use Rattle.std.proofs.Common.{inl, inr}
-use Rattle.text.specs.Doings.{four_rows}
+use Rattle.text.proofs.Doings.{four_rows}
 use Rattle.text.proofs.Shorts.{cut_exit}
 use Rattle.text.proofs.answers.done_parts.Goals as goal
 

@@ -1,5 +1,5 @@
 use Rattle.text.proofs.Made.{made_is}
-use Rattle.text.specs.Listings.{block_none, block_some}
+use Rattle.text.proofs.Listings.{block_none, block_some}
 use Rattle.text.proofs.lists.block_text.Goals as goal
 
 pub returns-then-is_empty : goal.returns-then-is_empty

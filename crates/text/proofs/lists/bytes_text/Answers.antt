@@ -1,5 +1,5 @@
 use Rattle.text.proofs.Made.{made_is}
-use Rattle.text.specs.Listings.{bytes_none, bytes_some}
+use Rattle.text.proofs.Listings.{bytes_none, bytes_some}
 use Rattle.text.proofs.lists.bytes_text.Goals as goal
 
 pub returns-then-is_empty : goal.returns-then-is_empty

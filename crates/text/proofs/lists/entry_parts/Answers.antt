@@ -1,5 +1,5 @@
 use Rattle.text.specs.Text.{entry_text}
-use Rattle.text.specs.Listings.{entries_none, entries_more}
+use Rattle.text.proofs.Listings.{entries_none, entries_more}
 use Rattle.text.proofs.lists.entry_parts.Goals as goal
 
 pub loop-i-init : goal.loop-i-init

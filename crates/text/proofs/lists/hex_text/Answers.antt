@@ -1,4 +1,4 @@
-use Rattle.text.specs.Listings.{hex_more, hex_all}
+use Rattle.text.proofs.Listings.{hex_more, hex_all}
 use Rattle.text.proofs.lists.hex_text.Goals as goal
 
 pub loop-byte-preserved : goal.loop-byte-preserved

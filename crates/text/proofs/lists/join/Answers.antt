@@ -1,4 +1,4 @@
-use Rattle.std.proofs.Common.{◌≡◌, ap, ◌∙◌, rules}
+use Rattle.std.proofs.Common.{rules}
 use Rattle.text.proofs.Joined.{join_more, join_all}
 use Rattle.text.proofs.lists.join.Goals as goal
 

@@ -1,5 +1,5 @@
 use Rattle.text.proofs.Made.{made_is}
-use Rattle.text.specs.Listings.{past_none, past_some}
+use Rattle.text.proofs.Listings.{past_none, past_some}
 use Rattle.text.proofs.lists.past_text.Goals as goal
 
 pub returns-then-is_empty : goal.returns-then-is_empty

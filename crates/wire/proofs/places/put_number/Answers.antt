@@ -1,4 +1,4 @@
-use Rattle.std.proofs.Common.{List, sym, ◌∙◌}
+use Rattle.std.proofs.Common.{sym, ◌∙◌}
 use Rattle.wire.proofs.Eight.{eight_bytes, put_eight}
 use Rattle.wire.proofs.places.put_number.Goals as goal
 

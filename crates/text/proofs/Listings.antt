@@ -4,10 +4,9 @@ use Rattle.std.proofs.Common.{sym, ap, ◌∙◌, arith}
 use mathlib.Core.List.{map-map, reverse-cons, append-nil, append_assoc}
 use Rattle.std.proofs.Math.Utf8.{encode}
 use Rattle.std.specs.Fmt.{digit_glyph}
-use Rattle.std.proofs.lemmas.List.{map_push, map-append, drop_all, drop_more}
+use Rattle.std.proofs.lemmas.List.{map_push, drop_all, drop_more}
 use Rattle.std.proofs.lemmas.Bool.{false≢true, eqb-true}
 use Rattle.std.proofs.lemmas.Str.{encode_ascii}
-use Rattle.protocol.specs.Data as defined
 use Rattle.wire.specs.Meaning.{data_of}
 use Rattle.wire.specs.declared.values.Data.{Data}
 use Rattle.text.specs.Meaning.{entry_of}

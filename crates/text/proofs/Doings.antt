@@ -4,14 +4,13 @@ use Rattle.std.proofs.Math.Path.{sym}
 use Rattle.std.proofs.Common.{ap, ◌∙◌, append-nil, append_assoc, mul-zero, add-one, arith, drop-drop}
 use Rattle.std.proofs.lemmas.List.{map_push}
 use Rattle.std.proofs.lemmas.Bool.{false≢true}
-use Rattle.wire.specs.Bytes.{share_from, data_from, duty_from}
-use Rattle.events.specs.Layout.{entries, number_from}
+use Rattle.events.specs.Layout.{entries}
 use Rattle.events.specs.Meaning.{answer_of, row_shares, row_data, row_duties, row_slots}
 use Rattle.events.specs.declared.answer.Answer.{Answer}
 use Rattle.events.specs.declared.answer.Answer.TheVariants.{Refused, Done}
 use Rattle.events.specs.declared.row.Row.{Row}
-use Rattle.text.specs.Text.{joined, sends_text, hands_in_text, begins_text, ends_text, done_texts, done_text, answer_text}
-use Rattle.text.specs.Listings.{some}
+use Rattle.text.specs.Text.{joined, done_texts, done_text, answer_text}
+use Rattle.text.proofs.Listings.{some}
 
 -- one entry more
 entries_push : {A : Type 0} (size : ℕ) (from : List ℕ → A) (n : ℕ) (bs : List ℕ) → entries size from (suc n) bs ≡ entries size from n bs ++ (from (drop (size * n) bs) ∷ [])
@@ -38,30 +37,6 @@ module _ {S : Type 0} (g : S → List ℕ) (size : ℕ) (from : List ℕ → Lis
 -- a count has come to its end
 pub at_end : (i n k : ℕ) → k ≤ i → i ≤ k → k ≡ n → i ≡ n
 at_end i n k g h e = omega arith
-
--- what is written of each entry
-told_each : {A : Type 0} (f : A → List ℕ) (size : ℕ) (from : List ℕ → A) (n : ℕ) (bs : List ℕ) → map f (entries size from n bs) ≡ entries size (λ b. f (from b)) n bs
-unfolding entries
-told_each f size from zero bs = refl
-told_each f size from (suc n) bs = ap (λ ts. f (from bs) ∷ ts) (told_each f size from n (drop size bs))
-
--- what is written of a row, by its bytes
-module _ (r : Row) where
-  pub shares_told : map sends_text (row_shares r) ≡ entries 137 (λ b. sends_text (share_from b)) r.count r.bytes.now
-  unfolding row_shares
-  shares_told = told_each sends_text 137 share_from r.count r.bytes.now
-
-  pub data_told : map hands_in_text (row_data r) ≡ entries 128 (λ b. hands_in_text (data_from b)) r.count r.bytes.now
-  unfolding row_data
-  data_told = told_each hands_in_text 128 data_from r.count r.bytes.now
-
-  pub duties_told : map begins_text (row_duties r) ≡ entries 24 (λ b. begins_text (duty_from b)) r.count r.bytes.now
-  unfolding row_duties
-  duties_told = told_each begins_text 24 duty_from r.count r.bytes.now
-
-  pub slots_told : map ends_text (row_slots r) ≡ entries 8 (λ b. ends_text (number_from b)) r.count r.bytes.now
-  unfolding row_slots
-  slots_told = told_each ends_text 8 number_from r.count r.bytes.now
 
 -- the entries of four rows, one row after the other
 pub four_rows : {S : Type 0} (g : S → List ℕ) (ps ps1 ps2 ps3 ps4 : List S) (a b c d : List (List ℕ)) → ps ≡ []
