@@ -1,6 +1,6 @@
 -- Whatever a client answers to an event, the bytes of an answer can carry.
 use Rattle.std.proofs.Common.{◌≡◌, ℕ, suc, ◌<◌, ◌≤◌, Bool, true, ◌&&◌, ◌||◌, eqb, ltb, leb, List, [], ◌∷◌, length, get_or, refl, subst, arith}
-use Rattle.std.specs.List.{AllByRecursion as All}
+use Rattle.std.specs.List.{AllByRecursion}
 use Rattle.std.proofs.ByRecursion.{All-weaker, Decides-by_and}
 use Rattle.std.proofs.lemmas.Bool.{and_parts, and_from, lt-ltb, le-leb}
 use Rattle.protocol.specs.Data.{pick, Data, Duty, quorum}
@@ -17,7 +17,7 @@ use Rattle.keeper.proofs.FittingLists.{all_among}
 use Rattle.keeper.proofs.Fitting.{step_fits}
 
 -- a row of few entries, each of which can be carried; a row of none, and one of one
-row_from : {A : Type 0} (f : A → Bool) (xs : List A) → length xs ≤ 255 → All (λ x. f x ≡ true) xs → row_carried f xs ≡ true
+row_from : {A : Type 0} (f : A → Bool) (xs : List A) → length xs ≤ 255 → AllByRecursion (λ x. f x ≡ true) xs → row_carried f xs ≡ true
 unfolding row_carried all_pass
 row_from f xs few each =
     and_from (leb (length xs) 255) (all_pass f xs) (le-leb (length xs) 255 few)
@@ -44,7 +44,7 @@ unfolding answer_carried
 does_carried ss ds ys ks s d y k = and_from _ _ (and_from _ _ s d) (and_from _ _ y k)
 
 -- the duty at hand, and what was begun
-hand_fits : (t : Stored) → Fits t → All DutyFits (hand t)
+hand_fits : (t : Stored) → Fits t → AllByRecursion DutyFits (hand t)
 hand_fits t f = all_among DutyFits t.active (hand t) (member_first t.at_hand t.active) f.active
 
 hand_carried : (t : Stored) → Fits t → row_carried a_duty (hand t) ≡ true
@@ -73,7 +73,7 @@ unfolding readable
 duty_seat y h =
     (and_parts (eight y.committee) (eight y.seat) (and_parts (eight y.slot) (eight y.committee && eight y.seat) h.1).1).1
 
-sent_carried : (can : ℕ → Bool) (t : Stored) (ys : List Duty) (k : ℕ) (d : Data) → Well t → readable (decided k d) ≡ true → All DutyFits ys → row_carried a_share (sends_decided (limits_in can t) ys k d) ≡ true
+sent_carried : (can : ℕ → Bool) (t : Stored) (ys : List Duty) (k : ℕ) (d : Data) → Well t → readable (decided k d) ≡ true → AllByRecursion DutyFits ys → row_carried a_share (sends_decided (limits_in can t) ys k d) ≡ true
 unfolding sends_decided readable
 sent_carried can t [] k d w e h = row_none a_share
 sent_carried can t (y ∷ ys) k d w e h =
@@ -101,11 +101,11 @@ ends_length ds (y ∷ ys) =
     let less : length (ends ds ys) ≤ length ys = ends_length ds ys in
     pick_both (has_slot y.slot ds) (y.slot ∷ ends ds ys) (ends ds ys) (λ ks. length ks ≤ suc (length ys)) (λ _. omega arith) (λ _. omega arith)
 
-ends_fit : (ds : List Data) (ys : List Duty) → All DutyFits ys → All (λ k. eight k ≡ true) (ends ds ys)
+ends_fit : (ds : List Data) (ys : List Duty) → AllByRecursion DutyFits ys → AllByRecursion (λ k. eight k ≡ true) (ends ds ys)
 unfolding ends
 ends_fit ds [] h = tt
 ends_fit ds (y ∷ ys) h =
-    pick_both (has_slot y.slot ds) (y.slot ∷ ends ds ys) (ends ds ys) (All (λ k. eight k ≡ true))
+    pick_both (has_slot y.slot ds) (y.slot ∷ ends ds ys) (ends ds ys) (AllByRecursion (λ k. eight k ≡ true))
     (λ _. (duty_slot y h.0, ends_fit ds ys h.1)) (λ _. ends_fit ds ys h.1)
 
 ends_carried : (ds : List Data) (t : Stored) → Well t → Fits t → row_carried (λ k. eight k) (ends ds t.active) ≡ true

@@ -1,6 +1,6 @@
 -- Answers are read back as written: the rows of an answer, one after the other, over any coding of an entry.
 use Rattle.std.proofs.Common.{◌≡◌, ℕ, ◌*◌, Bool, true, eqb, ltb, leb, List, [], ◌∷◌, ◌++◌, length, Some, Option, sym, ◌∙◌, arith, length-append, drop_at}
-use Rattle.std.specs.List.{AllByRecursion as All}
+use Rattle.std.specs.List.{AllByRecursion}
 use Rattle.std.proofs.lemmas.List.{append-nil}
 use Rattle.std.proofs.lemmas.Bool.{le-leb, eq-eqb, and_parts}
 use Rattle.protocol.specs.Data.{pick, Data, Duty}
@@ -14,7 +14,7 @@ use Rattle.events.specs.Codec.{all_pass, row_carried, answer_carried, AnswersRea
 use Rattle.events.proofs.AnswerRows.{done_is}
 use Rattle.events.proofs.Entries.{alone, length_all, entries_back}
 
-each_passes : {A : Type 0} (f : A → Bool) (xs : List A) → all_pass f xs ≡ true → All (λ x. f x ≡ true) xs
+each_passes : {A : Type 0} (f : A → Bool) (xs : List A) → all_pass f xs ≡ true → AllByRecursion (λ x. f x ≡ true) xs
 unfolding all_pass
 each_passes f [] h = tt
 each_passes f (x ∷ xs) h = let parts = and_parts (f x) (all_pass f xs) h in (parts.0, each_passes f xs parts.1)
@@ -25,7 +25,7 @@ module _ {A : Type 0} {size : ℕ} {bytes : A → List ℕ} {from : List ℕ →
   unfolding row_there
   row_is_there = le-leb _ _ (omega (arith, length-append (all_bytes bytes xs) rest, length_all c xs))
 
-  row_back : All fits xs → row_entries size from (row_bytes bytes xs ++ rest) ≡ xs
+  row_back : AllByRecursion fits xs → row_entries size from (row_bytes bytes xs ++ rest) ≡ xs
   unfolding row_entries
   row_back h = entries_back c xs rest h
 
@@ -33,7 +33,7 @@ module _ {A : Type 0} {size : ℕ} {bytes : A → List ℕ} {from : List ℕ →
   unfolding behind_row
   row_behind = drop_at (all_bytes bytes xs) rest (size * length xs) (length_all c xs)
 
-row_each : {A : Type 0} (f : A → Bool) (xs : List A) → row_carried f xs ≡ true → All (λ x. f x ≡ true) xs
+row_each : {A : Type 0} (f : A → Bool) (xs : List A) → row_carried f xs ≡ true → AllByRecursion (λ x. f x ≡ true) xs
 unfolding row_carried
 row_each f xs h = each_passes f xs (and_parts (leb (length xs) 255) (all_pass f xs) h).1
 

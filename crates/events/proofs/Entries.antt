@@ -1,7 +1,7 @@
 -- The laws of entries one after the other, over any coding of an entry: how long they are, that they are read back as written and written back as read.
 use Rattle.std.proofs.Common.{◌≡◌, ℕ, zero, suc, ◌+◌, ◌*◌, ◌<◌, ◌≤◌, List, [], ◌∷◌, ◌++◌, length, take, drop, sym, refl, ap, ◌∙◌, append_assoc, mul-zero, arith, length-append, length-drop, take-add, drop_at}
 use lib.Seq.{take-append-le}
-use Rattle.std.specs.List.{AllByRecursion as All}
+use Rattle.std.specs.List.{AllByRecursion}
 use Rattle.std.proofs.lemmas.List.{append-nil, drop-append-le}
 use Rattle.std.proofs.ByRecursion.{All-drop}
 use Rattle.wire.specs.Bytes.{AllBytes}
@@ -27,7 +27,7 @@ module _ {A : Type 0} {size : ℕ} {bytes : A → List ℕ} {from : List ℕ →
   pub length_all : (xs : List A) → length (all_bytes bytes xs) ≡ size * length xs
   length_all xs = length_coded bytes size c.long xs
 
-  pub entries_back : (xs : List A) (rest : List ℕ) → All fits xs → entries size from (length xs) (all_bytes bytes xs ++ rest) ≡ xs
+  pub entries_back : (xs : List A) (rest : List ℕ) → AllByRecursion fits xs → entries size from (length xs) (all_bytes bytes xs ++ rest) ≡ xs
   unfolding all_bytes entries
   entries_back [] rest h = refl
   entries_back (x ∷ xs) rest h =
@@ -42,7 +42,7 @@ module _ {A : Type 0} {size : ℕ} {bytes : A → List ℕ} {from : List ℕ →
       let whole : size * suc n ≡ size + size * n = omega arith in
       rw (whole, take-add size (size * n) bs, c.again bs h here, entries_again n (drop size bs) (All-drop (λ b. b < 256) size bs h) more)
 
-  pub entries_fit : (n : ℕ) (bs : List ℕ) → AllBytes bs → All fits (entries size from n bs)
+  pub entries_fit : (n : ℕ) (bs : List ℕ) → AllBytes bs → AllByRecursion fits (entries size from n bs)
   unfolding entries
   entries_fit zero bs h = tt
   entries_fit (suc n) bs h = (c.fitting bs h, entries_fit n (drop size bs) (All-drop (λ b. b < 256) size bs h))

@@ -1,7 +1,7 @@
 -- The kinds of events, as one: bytes in front that say the kind, and then exactly as many as the kind asks for. And every list of bytes by cases:
 -- none, a number that no kind has, a block's number alone, or those of a kind in front of others.
 use Rattle.std.proofs.Common.{◌≡◌, ℕ, zero, suc, ◌+◌, ◌*◌, ◌<◌, ◌≤◌, true, List, [], ◌∷◌, ◌++◌, length, take, drop, sym, refl, ap, ◌∙◌, arith}
-use Rattle.std.specs.List.{AllByRecursion as All}
+use Rattle.std.specs.List.{AllByRecursion}
 use Rattle.std.proofs.lemmas.List.{take_all, nil_from_length}
 use Rattle.std.proofs.lemmas.Bool.{ne_eqb, and_from, le-leb}
 use Rattle.protocol.specs.Data.{pick, Data}
@@ -89,7 +89,7 @@ resend_kind =
     }
 
 -- a block of n data
-pub all_carried_from : (ds : List Data) → All (λ d. carried d ≡ true) ds → all_carried ds ≡ true
+pub all_carried_from : (ds : List Data) → AllByRecursion (λ d. carried d ≡ true) ds → all_carried ds ≡ true
 unfolding all_carried
 all_carried_from [] h = refl
 all_carried_from (d ∷ ds) h = and_from (carried d) (all_carried ds) h.0 (all_carried_from ds h.1)

@@ -1,6 +1,6 @@
 -- Events are read back as written and written back as read, and whatever is read can be carried.
 use Rattle.std.proofs.Common.{◌≡◌, ℕ, ◌+◌, ◌<◌, ◌≤◌, true, leb, List, [], ◌∷◌, ◌++◌, length, sym, refl, ap, ◌∙◌, subst, ⊎_elim, arith, length-append}
-use Rattle.std.specs.List.{AllByRecursion as All}
+use Rattle.std.specs.List.{AllByRecursion}
 use Rattle.std.proofs.lemmas.List.{append-nil}
 use Rattle.std.proofs.lemmas.Bool.{lt-ltb, leb-true, and_parts, cases_order}
 use Rattle.protocol.specs.Data.{pick, Data}
@@ -14,7 +14,7 @@ use Rattle.events.specs.Codec.{EventsReadBack, ReadIsReadable, ReadIsWrittenBack
 use Rattle.events.proofs.Entries.{alone, length_all, entries_back}
 use Rattle.events.proofs.EventKinds.{Kind, parse_unknown, duty_kind, decided_kind, share_kind, block_kind, resend_kind, by_kind, cut_short, too_long, just_right}
 
-all_carried_each : (ds : List Data) → all_carried ds ≡ true → All (λ d. carried d ≡ true) ds
+all_carried_each : (ds : List Data) → all_carried ds ≡ true → AllByRecursion (λ d. carried d ≡ true) ds
 unfolding all_carried
 all_carried_each [] h = tt
 all_carried_each (d ∷ ds) h = let both_of = and_parts (carried d) (all_carried ds) h in (both_of.0, all_carried_each ds both_of.1)

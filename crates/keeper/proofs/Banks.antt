@@ -1,6 +1,6 @@
 -- Banks that are taken and freed hold what came for the slots of one duty more, or fewer; and as many are free as duties leave. Assumes nothing.
 use Rattle.std.proofs.Common.{◌≡◌, ℕ, zero, suc, ◌+◌, ◌*◌, ◌<◌, ◌≤◌, List, [], ◌∷◌, ◌++◌, length, replicate, sym, refl, ap, ◌∙◌, subst, arith, length-set}
-use Rattle.std.specs.List.{AllByRecursion as All}
+use Rattle.std.specs.List.{AllByRecursion}
 use Rattle.std.proofs.ByRecursion.{All-set, All-get_or}
 use Rattle.protocol.specs.Data.{Duty}
 use Rattle.protocol.specs.Client.{Share}
@@ -69,7 +69,7 @@ free_and_used (y ∷ ys) bs marks =
     omega (arith, freed_count n y.slot 0 bs (has_bank y ys bs marks), hit_same 0, hit_last y.slot, length-set bs (place_of (suc y.slot) bs) (free_bank n))
 
 -- the bank at the place of a mark is as the mark asks
-pub kept_at : (n m : ℕ) (got : List Share) (bs : List Bank) → All (AsMarked n got) bs → 1 ≤ banks_for m bs → bank_at bs (place_of m bs) ≡ bank_of n got m
+pub kept_at : (n m : ℕ) (got : List Share) (bs : List Bank) → AllByRecursion (AsMarked n got) bs → 1 ≤ banks_for m bs → bank_at bs (place_of m bs) ≡ bank_of n got m
 kept_at n m got bs kept some =
     let found = place_found m bs some in
     All-get_or (AsMarked n got) bs (place_of m bs) (free_bank 0) found.0 kept ∙ ap (bank_of n got) found.1

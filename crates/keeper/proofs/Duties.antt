@@ -1,6 +1,6 @@
 -- Lists of duties: the first of them and the others, those that data is not for, and how many there are for a slot. Assumes nothing.
 use Rattle.std.proofs.Common.{◌≡◌, ℕ, zero, suc, ◌+◌, ◌<◌, ◌≤◌, Bool, true, false, not, ◌||◌, eqb, ltb, List, [], ◌∷◌, drop, sym, refl, ap, ◌∙◌, ⊎_elim, arith}
-use Rattle.std.specs.List.{AllByRecursion as All}
+use Rattle.std.specs.List.{AllByRecursion}
 use Rattle.std.proofs.lemmas.Bool.{eqb-true, lt-ltb, both_ways}
 use Rattle.protocol.specs.Data.{pick, Data, Duty, first_of}
 use Rattle.protocol.specs.Client.{has_slot, not_for, for_some}
@@ -26,7 +26,7 @@ duties_parted k (suc n) [] = refl
 duties_parted k (suc n) (y ∷ ys) = omega (arith, duties_parted k n ys, duties_more k y ys, duties_more k y (first_of n ys))
 
 -- no duty counts for a slot that all are below
-pub none_from : (hi k : ℕ) (ys : List Duty) → All (λ (y : Duty). y.slot < hi) ys → hi ≤ k → duties_for k ys ≡ 0
+pub none_from : (hi k : ℕ) (ys : List Duty) → AllByRecursion (λ (y : Duty). y.slot < hi) ys → hi ≤ k → duties_for k ys ≡ 0
 unfolding duties_for
 none_from hi k [] h le = refl
 none_from hi k (y ∷ ys) h le =

@@ -1,6 +1,6 @@
 -- Each part of a step keeps every number of a client within 64 bits, if what it was told fits.
 use Rattle.std.proofs.Common.{◌≡◌, ℕ, suc, ◌<◌, Bool, true, ◌&&◌, List, [], ◌∷◌, drop, set, refl, arith}
-use Rattle.std.specs.List.{AllByRecursion as All}
+use Rattle.std.specs.List.{AllByRecursion}
 use Rattle.std.proofs.ByRecursion.{All-set, All-push, All-map, All-weaker, Decides-by_and}
 use Rattle.std.proofs.lemmas.Bool.{ltb-true, lt-ltb, and_parts, and_from}
 use Rattle.protocol.specs.Data.{Data, Past, past_of, Duty, into, keep, first_of}
@@ -25,7 +25,7 @@ abbrev ShareFits : Share → Type 0
 ShareFits s = readable (share s) ≡ true
 
 abbrev pub BankFits : Bank → Type 0
-BankFits b = (b.mark < 18446744073709551616) × All CellFits b.cells
+BankFits b = (b.mark < 18446744073709551616) × AllByRecursion CellFits b.cells
 
 -- the epochs of data that fits; a client's own share of it; what a share that came says; the data of a block
 past_fits : (d : Data) → DataFits d → PastFits (past_of d)
@@ -50,7 +50,7 @@ said_fits : (x : Share) → ShareFits x → CellFits (holds x.seat x.what)
 unfolding readable
 said_fits x e = let h = and_parts _ _ (and_parts _ _ e).1 in (h.1, h.0)
 
-block_fits : (ds : List Data) → readable (block ds) ≡ true → All DataFits ds
+block_fits : (ds : List Data) → readable (block ds) ≡ true → AllByRecursion DataFits ds
 unfolding readable all_carried
 block_fits ds e =
     (Decides-by_and carried DataFits all_carried (λ d. (λ h. h, λ h. h)) refl (λ d es. refl) ds).0 (and_parts _ _ e).1
@@ -60,12 +60,12 @@ pub free_fits : (n : ℕ) → BankFits (free_bank n)
 free_fits n = (omega arith, all_replicate CellFits n empty tt)
 
 -- the past with one entry more, and what is ahead when a block has come
-kept_fits : (n : ℕ) (d : Data) (ps : List Past) → DataFits d → All PastFits ps → All PastFits (keep n (past_of d) ps)
+kept_fits : (n : ℕ) (d : Data) (ps : List Past) → DataFits d → AllByRecursion PastFits ps → AllByRecursion PastFits (keep n (past_of d) ps)
 kept_fits n d ps e h =
     let all : List Past = into (past_of d) ps in
     all_among PastFits all (first_of n all) (member_first n all) (all_into PastFits (past_of d) ps (past_fits d e) h)
 
-pub told_fits : (ds : List Data) (t : Stored) → readable (block ds) ≡ true → Fits t → All DataFits (told t ds)
+pub told_fits : (ds : List Data) (t : Stored) → readable (block ds) ≡ true → Fits t → AllByRecursion DataFits (told t ds)
 told_fits ds t e f = all_told DataFits ds t.ahead (block_fits ds e) f.ahead
 
 -- the parts of a step
@@ -83,7 +83,7 @@ remembered_fits d t e f =
       banks = f.banks;
     }
 
-pub learnt_fits : (ds : List Data) (y : Duty) (t : Stored) → All DataFits ds → Fits t → Fits (learnt ds y t)
+pub learnt_fits : (ds : List Data) (y : Duty) (t : Stored) → AllByRecursion DataFits ds → Fits t → Fits (learnt ds y t)
 unfolding learnt
 learnt_fits [] y t e f = f
 learnt_fits (d ∷ ds) y t e f =
@@ -175,7 +175,7 @@ heard_fits x t e f =
           all_set_at BankFits t.banks there (free_bank 0) filled (λ b. (b.0, All-set CellFits cells x.who said (said_fits x e) b.1)) f.banks;
     }
 
-pub shown_fits : (all : List Data) (t : Stored) → All DataFits all → Fits t → Fits (block_kept all t)
+pub shown_fits : (all : List Data) (t : Stored) → AllByRecursion DataFits all → Fits t → Fits (block_kept all t)
 shown_fits all t e f =
     let n : ℕ = t.sizes.clients in
     let w : ℕ = t.sizes.waiting in

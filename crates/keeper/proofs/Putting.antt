@@ -1,6 +1,6 @@
 -- A share that is taken goes into its client's cell of the bank of its slot, and all other banks stay as they are. Assumes nothing.
 use Rattle.std.proofs.Common.{◌≡◌, ℕ, zero, suc, ◌+◌, ◌<◌, ◌≤◌, Bool, true, false, not, ◌||◌, eqb, ltb, List, [], ◌∷◌, ◌++◌, length, get_or, set, sym, refl, ap, ◌∙◌, arith, length-set}
-use Rattle.std.specs.List.{AllByRecursion as All}
+use Rattle.std.specs.List.{AllByRecursion}
 use Rattle.std.proofs.lemmas.Bool.{eqb-true, eqb-false, ltb-true, lt-ltb}
 use Rattle.std.proofs.lemmas.Bool.Decides.{nat_tests}
 use Rattle.protocol.specs.Data.{pick}
@@ -28,7 +28,7 @@ bank_as n zero got more same_cells = refl
 bank_as n (suc j) got more same_cells = ap (λ cs. record { mark = suc j; cells = cs }) (same_cells j refl)
 
 -- and so for all banks, where other shares leave the cells of every slot that has a bank
-kept_as : (n : ℕ) (got more : List Share) (bs : List Bank) → ((j : ℕ) → 1 ≤ banks_for (suc j) bs → cells_of n got j ≡ cells_of n more j) → All (AsMarked n got) bs → All (AsMarked n more) bs
+kept_as : (n : ℕ) (got more : List Share) (bs : List Bank) → ((j : ℕ) → 1 ≤ banks_for (suc j) bs → cells_of n got j ≡ cells_of n more j) → AllByRecursion (AsMarked n got) bs → AllByRecursion (AsMarked n more) bs
 kept_as n got more [] same_cells kept = tt
 kept_as n got more (b ∷ bs) same_cells kept = (
   kept.0 ∙ bank_as n b.mark got more (λ j e. same_cells j (omega (arith, banks_more (suc j) b bs, ap (λ m. hit m (suc j)) e, hit_same (suc j)))),
@@ -37,11 +37,11 @@ kept_as n got more (b ∷ bs) same_cells kept = (
 
 -- a bank put in the place of the only one with the mark of its slot
 kept_put : (n k : ℕ) (got more : List Share) (b : Bank) (bs : List Bank) → banks_for (suc k) bs ≤ 1 → AsMarked n more b →
-    ((j : ℕ) → (j ≡ k → ⊥) → cells_of n got j ≡ cells_of n more j) → All (AsMarked n got) bs → All (AsMarked n more) (set bs (place_of (suc k) bs) b)
+    ((j : ℕ) → (j ≡ k → ⊥) → cells_of n got j ≡ cells_of n more j) → AllByRecursion (AsMarked n got) bs → AllByRecursion (AsMarked n more) (set bs (place_of (suc k) bs) b)
 unfolding place_of
 kept_put n k got more b [] one is others kept = tt
 kept_put n k got more b (c ∷ bs) one is others kept =
-    pick_both (eqb c.mark (suc k)) 0 (suc (place_of (suc k) bs)) (λ i. All (AsMarked n more) (set (c ∷ bs) i b))
+    pick_both (eqb c.mark (suc k)) 0 (suc (place_of (suc k) bs)) (λ i. AllByRecursion (AsMarked n more) (set (c ∷ bs) i b))
     (λ e. (is, kept_as n got more bs (λ j some. others j (λ same. gone (eqb-true c.mark (suc k) e) j some same)) kept.1))
     (λ f. (
       kept.0 ∙ bank_as n c.mark got more (λ j e. others j (λ same. eqb-false c.mark (suc k) f (e ∙ ap suc same))),
@@ -76,7 +76,7 @@ put_holds n w s x bs low on one h =
     let i : ℕ = place_of (suc k) bs in
     let old : List Share = heard s s.got in
     let b : Bank = put_in x (bank_at bs i) in
-    let kept : All (AsMarked n old) bs =
+    let kept : AllByRecursion (AsMarked n old) bs =
     kept_as n s.got old bs (λ j there. cells_same n s.got old j (λ c. cell_heard s j c s.got (bank_heard s j h there))) h.each in
     let is : AsMarked n (x ∷ old) b =
     ap (put_in x) (kept_at n (suc k) old bs kept some) ∙ ap (λ cs. record { mark = suc k; cells = cs }) (sym (cells_put n x old low))

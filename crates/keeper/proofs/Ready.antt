@@ -1,6 +1,6 @@
 -- Whatever came, a client's numbers fit, and its duties that wait and what is ahead are in the order of slots.
 use Rattle.std.proofs.Common.{◌≡◌, ℕ, suc, ◌<◌, ◌≤◌, Bool, List, [], ◌∷◌, arith}
-use Rattle.std.specs.List.{AllByRecursion as All}
+use Rattle.std.specs.List.{AllByRecursion}
 use Rattle.std.proofs.ByRecursion.{All-weaker}
 use Rattle.std.proofs.lemmas.Bool.{ltb-false}
 use Rattle.protocol.specs.Data.{Data, Duty}
@@ -17,7 +17,7 @@ use Rattle.keeper.proofs.ReadyLists.{Rises, rises_without, rises_still, rises_fi
 -- the duties that wait ascend and are below the next one, and what is ahead ascends
 record InOrder (waiting : List Duty) (after : ℕ) (shown : List Data) : Type 0 where
   queue : Ascending (duty_slots waiting)
-  given : All (λ k. k < after) (duty_slots waiting)
+  given : AllByRecursion (λ k. k < after) (duty_slots waiting)
   ahead : Rises shown
 
 abbrev Ordered : Stored → Type 0
@@ -36,7 +36,7 @@ learnt_ordered (d ∷ ds) y t o = record { queue = o.queue; given = o.given; ahe
 
 given_ordered : (y : Duty) (t : Stored) → t.after ≤ y.slot → Ordered t → Ordered (given y t)
 given_ordered y t le o =
-    let upto : (n : ℕ) → t.after ≤ n → All (λ k. k < n) (duty_slots t.queue) =
+    let upto : (n : ℕ) → t.after ≤ n → AllByRecursion (λ k. k < n) (duty_slots t.queue) =
     λ n h. All-weaker (λ k. k < t.after) (λ k. k < n) (λ k b. omega arith) (duty_slots t.queue) o.given in
     record {
       queue = ascends_behind t.queue y o.queue (upto y.slot le);

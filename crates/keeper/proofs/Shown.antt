@@ -1,6 +1,6 @@
 -- Banks after a block: the shares of a slot that was shown are gone, and its bank is free if the slot was being decided. Assumes nothing.
 use Rattle.std.proofs.Common.{◌≡◌, ℕ, zero, suc, ◌+◌, ◌≤◌, Bool, true, false, ◌&&◌, List, [], ◌∷◌, ◌++◌, map, replicate, sym, refl, ap, ◌∙◌, subst, ap₂, ⊎_elim, arith}
-use Rattle.std.specs.List.{AllByRecursion as All}
+use Rattle.std.specs.List.{AllByRecursion}
 use Rattle.std.proofs.ByRecursion.{All-map, All-weaker}
 use Rattle.std.proofs.lemmas.List.{length-map}
 use Rattle.std.proofs.lemmas.Bool.{ltb-true, ltb-false, cases_Bool, and_from, and_left, and_right}
@@ -37,7 +37,7 @@ module _ (n : ℕ) (active : List Duty) (all : List Data) where
       (λ _. ap (λ cs. record { mark = suc k; cells = cs }) (sym (cells_none n (shares_not_for all got) k (λ i. cell_gone all k i got t)))))
       (λ f. ap (λ cs. record { mark = suc k; cells = cs }) (cells_same n got (shares_not_for all got) k (λ i. cell_left all k i got f)))
 
-  kept_shown : (got : List Share) (bs : List Bank) → All (AsMarked n got) bs → All (AsMarked n (shares_not_for all got)) (map (bank_after n active all) bs)
+  kept_shown : (got : List Share) (bs : List Bank) → AllByRecursion (AsMarked n got) bs → AllByRecursion (AsMarked n (shares_not_for all got)) (map (bank_after n active all) bs)
   kept_shown got bs kept =
       All-map (AsMarked n (shares_not_for all got)) (bank_after n active all) bs
       (All-weaker (AsMarked n got) _

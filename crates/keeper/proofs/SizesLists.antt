@@ -1,6 +1,6 @@
 -- How long lists are that the steps make of others; and that what holds of each bank, and of a bank that is made anew, holds of each bank then.
 use Rattle.std.proofs.Common.{◌≡◌, ℕ, zero, suc, ◌≤◌, Bool, eqb, List, [], ◌∷◌, length, get_or, set, replicate, refl, ◌∙◌, arith, length-set}
-use Rattle.std.specs.List.{AllByRecursion as All}
+use Rattle.std.specs.List.{AllByRecursion}
 use Rattle.std.proofs.ByRecursion.{All-set}
 use Rattle.protocol.specs.Data.{pick, Data, Duty, first_of}
 use Rattle.protocol.specs.Client.{Share, has_slot, without, not_for, shares_not_for}
@@ -36,12 +36,12 @@ shares_not_for_length ds (s ∷ ss) =
     dropped_length (has_slot s.what.slot ds) s (shares_not_for ds ss) (length ss) (shares_not_for_length ds ss)
 
 -- another one at a place, of which P holds if it held of the one that was there
-pub all_set_at : {A : Type 0} (P : A → Type 0) (xs : List A) (i : ℕ) (d x : A) → (P (get_or xs i d) → P x) → All P xs → All P (set xs i x)
+pub all_set_at : {A : Type 0} (P : A → Type 0) (xs : List A) (i : ℕ) (d x : A) → (P (get_or xs i d) → P x) → AllByRecursion P xs → AllByRecursion P (set xs i x)
 all_set_at P [] i d x f h = tt
 all_set_at P (y ∷ ys) zero d x f h = (f h.0, h.1)
 all_set_at P (y ∷ ys) (suc i) d x f h = (h.0, all_set_at P ys i d x f h.1)
 
-pub all_replicate : {A : Type 0} (P : A → Type 0) (n : ℕ) (x : A) → P x → All P (replicate n x)
+pub all_replicate : {A : Type 0} (P : A → Type 0) (n : ℕ) (x : A) → P x → AllByRecursion P (replicate n x)
 all_replicate P zero x h = tt
 all_replicate P (suc n) x h = (h, all_replicate P n x h)
 
@@ -53,7 +53,7 @@ all_freed_length n (y ∷ ys) bs =
     let there : ℕ = place_of (suc y.slot) bs in
     all_freed_length n ys (set bs there (free_bank n)) ∙ length-set bs there (free_bank n)
 
-pub all_freed_all : (P : Bank → Type 0) (n : ℕ) → P (free_bank n) → (ys : List Duty) (bs : List Bank) → All P bs → All P (all_freed n ys bs)
+pub all_freed_all : (P : Bank → Type 0) (n : ℕ) → P (free_bank n) → (ys : List Duty) (bs : List Bank) → AllByRecursion P bs → AllByRecursion P (all_freed n ys bs)
 unfolding all_freed
 all_freed_all P n free [] bs h = h
 all_freed_all P n free (y ∷ ys) bs h =

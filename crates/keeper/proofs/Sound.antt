@@ -1,7 +1,7 @@
 -- What always holds of a state: no more duties wait, or are being decided, than may; at most one is at hand; no two are for one slot, and they and all shares that came are
 -- for slots below the next duty. It holds again when a duty is given, begun or done. Assumes nothing.
 use Rattle.std.proofs.Common.{◌≡◌, ℕ, suc, ◌+◌, ◌<◌, ◌≤◌, Bool, true, false, ltb, List, [], ◌∷◌, ◌++◌, length, refl, ◌∙◌, ⊎_elim, arith, length-append}
-use Rattle.std.specs.List.{AllByRecursion as All}
+use Rattle.std.specs.List.{AllByRecursion}
 use Rattle.std.proofs.ByRecursion.{All-push, All-weaker}
 use Rattle.std.proofs.lemmas.Bool.{ltb-true, ltb-false, le-ltb, cases_lt, both_ways, or_from}
 use Rattle.protocol.specs.Data.{pick, Duty, first_of}
@@ -19,8 +19,8 @@ pub record SoundParts (w : ℕ) (current active queue : List Duty) (after : ℕ)
   pub few_wait : length queue ≤ w  -- no more wait than may
   pub few_active : length active ≤ w  -- nor are being decided
   pub one_at_hand : length current ≤ 1
-  pub active_below : All (λ (y : Duty). y.slot < after) active  -- what is being decided, and what waits, is below the next duty
-  pub queue_below : All (λ (y : Duty). y.slot < after) queue
+  pub active_below : AllByRecursion (λ (y : Duty). y.slot < after) active  -- what is being decided, and what waits, is below the next duty
+  pub queue_below : AllByRecursion (λ (y : Duty). y.slot < after) queue
   pub apart : (k : ℕ) → duties_for k active + duties_for k queue ≤ 1  -- no two are for one slot
   pub came_below : (x : Share) → Member x got → x.what.slot < after  -- nor did a share come for a slot that is still to be given
 

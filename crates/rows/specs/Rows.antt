@@ -1,7 +1,7 @@
 -- Entries of one width that stand one after another in a list of numbers.
 -- Assumes nothing: these are definitions.
 use Rattle.std.specs.Prelude.{◌≡◌, ℕ, zero, suc, ◌+◌, ◌-◌, ◌*◌, ◌<◌, ◌≤◌, Bool, cond, List, [], ◌∷◌, ◌++◌, length, take, drop, replicate}
-use Rattle.std.specs.List.{AllByRecursion as All}
+use Rattle.std.specs.List.{AllByRecursion}
 
 -- the first n entries, each w numbers wide
 unfoldable pub rows : ℕ → ℕ → List ℕ → List (List ℕ)
@@ -47,7 +47,7 @@ kept_cells test w n xs =
 
 -- entries that all have the width
 abbrev pub Wide : ℕ → List (List ℕ) → Type 0
-Wide w rs = All (λ r. length r ≡ w) rs
+Wide w rs = AllByRecursion (λ r. length r ≡ w) rs
 
 -- a region for n entries that holds some and zeros behind is one again when a row is put in at m (before the end of c entries: all that there are, or all but
 -- the last, which is gone then), when the m-th is cut out, and when those that pass are kept

@@ -1,6 +1,6 @@
 -- What is ahead, by its slots: finding one, being without one, and having none.
 use Rattle.std.proofs.Common.{◌≡◌, ℕ, zero, suc, ◌<◌, ◌≤◌, true, false, cond, not, ◌||◌, eqb, List, [], ◌∷◌, length, take, drop, sym, refl, ap, ◌∙◌, ap₂, ⊎_elim, arith}
-use Rattle.std.specs.List.{AllByRecursion as All}
+use Rattle.std.specs.List.{AllByRecursion}
 use Rattle.std.proofs.lemmas.Bool.{eq-eqb, ne_eqb, cases_eq}
 use Rattle.protocol.specs.Data.{pick, Data}
 use Rattle.protocol.specs.Client.{has_slot, ahead_of, without, slots}
@@ -21,28 +21,28 @@ without_is k (d ∷ ds) =
     ∙ elim (eqb d.slot k) as (λ b. cond (not b) (d ∷ without k ds) (without k ds) ≡ pick b (without k ds) (d ∷ without k ds)) [ true ↦ refl | false ↦ refl ]
 
 -- none is for a slot
-pub none_there : (k : ℕ) (ds : List Data) → All (λ (d : Data). (d.slot ≡ k → ⊥)) ds → has_slot k ds ≡ false
+pub none_there : (k : ℕ) (ds : List Data) → AllByRecursion (λ (d : Data). (d.slot ≡ k → ⊥)) ds → has_slot k ds ≡ false
 unfolding has_slot
 none_there k [] h = refl
 none_there k (d ∷ ds) h = ap₂ ◌||◌ (ne_eqb d.slot k h.0) (none_there k ds h.1)
 
 -- the first i are for smaller slots, and behind them all are for larger ones
-pub none_between : (k i : ℕ) (ds : List Data) → All (λ (d : Data). d.slot < k) (take i ds) → All (λ (d : Data). k < d.slot) (drop i ds) → has_slot k ds ≡ false
+pub none_between : (k i : ℕ) (ds : List Data) → AllByRecursion (λ (d : Data). d.slot < k) (take i ds) → AllByRecursion (λ (d : Data). k < d.slot) (drop i ds) → has_slot k ds ≡ false
 none_between k i ds low high = none_there k ds (parted i ds low high)
   where
-    parted : (i : ℕ) (ds : List Data) → All (λ (d : Data). d.slot < k) (take i ds) → All (λ (d : Data). k < d.slot) (drop i ds) → All (λ (d : Data). (d.slot ≡ k → ⊥)) ds
+    parted : (i : ℕ) (ds : List Data) → AllByRecursion (λ (d : Data). d.slot < k) (take i ds) → AllByRecursion (λ (d : Data). k < d.slot) (drop i ds) → AllByRecursion (λ (d : Data). (d.slot ≡ k → ⊥)) ds
     parted zero [] low high = tt
     parted zero (d ∷ ds) low high = (λ e. omega (arith, high.0), parted zero ds tt high.1)
     parted (suc i) [] low high = tt
     parted (suc i) (d ∷ ds) low high = (λ e. omega (arith, low.0), parted i ds low.1 high)
 
 -- behind an entry of ascending slots all are larger
-above_all : (k : ℕ) (ds : List Data) → All (λ j. k < j) (slots ds) → All (λ (d : Data). k < d.slot) ds
+above_all : (k : ℕ) (ds : List Data) → AllByRecursion (λ j. k < j) (slots ds) → AllByRecursion (λ (d : Data). k < d.slot) ds
 unfolding slots
 above_all k [] h = tt
 above_all k (d ∷ ds) h = (h.0, above_all k ds h.1)
 
-pub larger_behind : (k i : ℕ) (d : Data) (ds : List Data) → Ascending (slots ds) → take 1 (drop i ds) ≡ d ∷ [] → k < d.slot → All (λ (x : Data). k < x.slot) (drop i ds)
+pub larger_behind : (k i : ℕ) (d : Data) (ds : List Data) → Ascending (slots ds) → take 1 (drop i ds) ≡ d ∷ [] → k < d.slot → AllByRecursion (λ (x : Data). k < x.slot) (drop i ds)
 unfolding slots
 larger_behind k zero d [] up e h = tt
 larger_behind k zero d (x ∷ ds) up e h =
@@ -50,7 +50,7 @@ larger_behind k zero d (x ∷ ds) up e h =
     let first : k < x.slot = omega (arith, ap (λ (y : Data). y.slot) same) in
     (first, further k x.slot ds first (above_all x.slot ds up.0))
   where
-    further : (k j : ℕ) (ds : List Data) → k < j → All (λ (x : Data). j < x.slot) ds → All (λ (x : Data). k < x.slot) ds
+    further : (k j : ℕ) (ds : List Data) → k < j → AllByRecursion (λ (x : Data). j < x.slot) ds → AllByRecursion (λ (x : Data). k < x.slot) ds
     further k j [] h a = tt
     further k j (x ∷ ds) h a = (omega (arith, a.0), further k j ds h a.1)
 larger_behind k (suc i) d [] up e h = tt
@@ -58,7 +58,7 @@ larger_behind k (suc i) d (x ∷ ds) up e h = larger_behind k i d ds up.1 e h
 
 -- the entry at a place with only smaller ones before it is what is ahead for its slot
 module _ (k : ℕ) (d : Data) (same : d.slot ≡ k) where
-  pub found_there : (i : ℕ) (ds : List Data) → All (λ (x : Data). x.slot < k) (take i ds) → take 1 (drop i ds) ≡ d ∷ [] → (ahead_of k ds ≡ d ∷ []) × (has_slot k ds ≡ true)
+  pub found_there : (i : ℕ) (ds : List Data) → AllByRecursion (λ (x : Data). x.slot < k) (take i ds) → take 1 (drop i ds) ≡ d ∷ [] → (ahead_of k ds ≡ d ∷ []) × (has_slot k ds ≡ true)
   unfolding ahead_of has_slot pick
   found_there zero [] low e = absurd (let z : ◌≡◌ {A = ℕ} 0 1 = ap length e in omega arith)
   found_there zero (x ∷ ds) low e =
@@ -72,7 +72,7 @@ module _ (k : ℕ) (d : Data) (same : d.slot ≡ k) where
       (ap (λ b. pick b (x ∷ []) (ahead_of k ds)) other ∙ rest.0, ap (λ b. b || has_slot k ds) other ∙ rest.1)
 
 -- what stands before stays without a larger slot
-pub front_stays : (k i : ℕ) (ds : List Data) → All (λ (x : Data). x.slot < k) (take i ds) → i ≤ length ds → take i (without k ds) ≡ take i ds
+pub front_stays : (k i : ℕ) (ds : List Data) → AllByRecursion (λ (x : Data). x.slot < k) (take i ds) → i ≤ length ds → take i (without k ds) ≡ take i ds
 unfolding without pick
 front_stays k zero ds low h = refl
 front_stays k (suc i) [] low h = absurd (omega arith)

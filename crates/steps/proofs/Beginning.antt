@@ -1,6 +1,6 @@
 -- A duty begun: what it drives out of what is being decided.
 use Rattle.std.proofs.Common.{◌≡◌, ℕ, zero, suc, ◌-◌, ◌<◌, ◌≤◌, List, [], ◌∷◌, length, take, drop, sym, refl, ap, ◌∙◌, arith, length-drop}
-use Rattle.std.specs.List.{AllByRecursion as All}
+use Rattle.std.specs.List.{AllByRecursion}
 use Rattle.std.proofs.lemmas.List.{take_all}
 use Rattle.protocol.specs.Data.{Duty}
 use Rattle.stored.specs.Stored.{Bank, Stored, freed, with_queue}
@@ -61,7 +61,7 @@ pub begins : (y : Duty) (t : Stored) → t.at_hand ≡ 0 → y ∷ [] ≡ take 1
 begins y t none e = first_there y t none t.queue e
 
 -- a duty that is among these fits too
-pub fits_there : (m : ℕ) (y : Duty) (ys : List Duty) → y ∷ [] ≡ take 1 (drop m ys) → All SlotFits ys → y.slot < 18446744073709551615
+pub fits_there : (m : ℕ) (y : Duty) (ys : List Duty) → y ∷ [] ≡ take 1 (drop m ys) → AllByRecursion SlotFits ys → y.slot < 18446744073709551615
 fits_there zero y [] e all = absurd (let v : ◌≡◌ {A = ℕ} 1 0 = ap length e in omega arith)
 fits_there (suc m) y [] e all = absurd (let v : ◌≡◌ {A = ℕ} 1 0 = ap length e in omega arith)
 fits_there zero y (x ∷ ys) e all =

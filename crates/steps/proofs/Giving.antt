@@ -1,6 +1,6 @@
 -- A duty that is given: by what it is turned away, and the client with it behind all that wait.
 use Rattle.std.proofs.Common.{◌≡◌, ℕ, suc, ◌<◌, ◌≤◌, Bool, true, false, ◌&&◌, eqb, ltb, List, [], ◌∷◌, ◌++◌, length, sym, refl, ap, ◌∙◌, ap₂, arith}
-use Rattle.std.specs.List.{AllByRecursion as All}
+use Rattle.std.specs.List.{AllByRecursion}
 use Rattle.std.proofs.lemmas.Bool.{lt-ltb, le-ltb}
 use Rattle.protocol.specs.Data.{pick, Data, Duty}
 use Rattle.protocol.specs.Client.{duty, does, good_fields, event_number, has_slot}
@@ -13,7 +13,7 @@ use Rattle.steps.specs.Queue.{upcoming}
 use Rattle.steps.proofs.Hands.{begun_row}
 
 -- what is ready is in order
-fits_slots : (ys : List Duty) → All DutyFits ys → All SlotFits ys
+fits_slots : (ys : List Duty) → AllByRecursion DutyFits ys → AllByRecursion SlotFits ys
 fits_slots [] h = tt
 fits_slots (y ∷ ys) h = (h.0.0, fits_slots ys h.1)
 
@@ -22,16 +22,16 @@ ready_orderly t r =
     record { waiting = fits_slots t.queue r.fits.queue; deciding = fits_slots t.active r.fits.active; queue = r.queue; ahead = r.ahead }
 
 -- one more behind all others
-all_more : (P : ℕ → Type 0) (y : Duty) (ys : List Duty) → All P (duty_slots ys) → P y.slot → All P (duty_slots (ys ++ y ∷ []))
+all_more : (P : ℕ → Type 0) (y : Duty) (ys : List Duty) → AllByRecursion P (duty_slots ys) → P y.slot → AllByRecursion P (duty_slots (ys ++ y ∷ []))
 all_more P y [] h p = (p, tt)
 all_more P y (x ∷ ys) h p = (h.0, all_more P y ys h.1 p)
 
-pub ascends_more : (k : ℕ) (y : Duty) (ys : List Duty) → Ascending (duty_slots ys) → All (λ j. j < k) (duty_slots ys) → k ≤ y.slot → Ascending (duty_slots (ys ++ y ∷ []))
+pub ascends_more : (k : ℕ) (y : Duty) (ys : List Duty) → Ascending (duty_slots ys) → AllByRecursion (λ j. j < k) (duty_slots ys) → k ≤ y.slot → Ascending (duty_slots (ys ++ y ∷ []))
 ascends_more k y [] up low h = (tt, tt)
 ascends_more k y (x ∷ ys) up low h =
     (all_more (λ j. x.slot < j) y ys up.0 (omega (arith, low.0)), ascends_more k y ys up.1 low.1 h)
 
-pub fits_more : (y : Duty) (ys : List Duty) → All SlotFits ys → SlotFits y → All SlotFits (ys ++ y ∷ [])
+pub fits_more : (y : Duty) (ys : List Duty) → AllByRecursion SlotFits ys → SlotFits y → AllByRecursion SlotFits (ys ++ y ∷ [])
 fits_more y [] h p = (p, tt)
 fits_more y (x ∷ ys) h p = (h.0, fits_more y ys h.1 p)
 

@@ -1,6 +1,6 @@
 -- The duty at hand once the queue was looked at: the same as before, or else the first that wasn't ahead.
 use Rattle.std.proofs.Common.{◌≡◌, ℕ, zero, suc, ◌<◌, ◌≤◌, true, false, ◌||◌, eqb, List, [], ◌∷◌, sym, refl, ap, ◌∙◌, ap₂, ⊎_elim, arith}
-use Rattle.std.specs.List.{AllByRecursion as All}
+use Rattle.std.specs.List.{AllByRecursion}
 use Rattle.std.proofs.lemmas.Bool.{ne_eqb, eqb-true, cases_Bool}
 use Rattle.protocol.specs.Data.{pick, Data, Duty, first_of}
 use Rattle.protocol.specs.Client.{has_slot, ahead_of, without, begun}
@@ -28,13 +28,13 @@ has_without j k (d ∷ ds) n =
     (λ e. ap (λ b. has_slot j (pick b (without k ds) (d ∷ without k ds))) e ∙ ap (λ b. eqb d.slot j || b) rest)
     (cases_Bool (eqb d.slot k))
 
-upcoming_without : (k : ℕ) (ys : List Duty) (ds : List Data) → All (λ j. k < j) (duty_slots ys) → upcoming ys (without k ds) ≡ upcoming ys ds
+upcoming_without : (k : ℕ) (ys : List Duty) (ds : List Data) → AllByRecursion (λ j. k < j) (duty_slots ys) → upcoming ys (without k ds) ≡ upcoming ys ds
 unfolding upcoming
 upcoming_without k [] ds h = refl
 upcoming_without k (y ∷ ys) ds h =
     ap₂ (λ b u. pick b u (y ∷ [])) (has_without y.slot k ds (λ e. omega (arith, h.0))) (upcoming_without k ys ds h.1)
 
-after_learnt : (es : List Data) (y : Duty) (ys : List Duty) (t : Stored) → All (λ j. y.slot < j) (duty_slots ys) → upcoming ys (learnt es y t).ahead ≡ upcoming ys t.ahead
+after_learnt : (es : List Data) (y : Duty) (ys : List Duty) (t : Stored) → AllByRecursion (λ j. y.slot < j) (duty_slots ys) → upcoming ys (learnt es y t).ahead ≡ upcoming ys t.ahead
 unfolding learnt
 after_learnt [] y ys t h = refl
 after_learnt (e ∷ es) y ys t h = upcoming_without y.slot ys t.ahead h

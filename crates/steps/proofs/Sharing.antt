@@ -1,6 +1,6 @@
 -- A share that came: why it is turned away, and what is handed in where it is taken.
 use Rattle.std.proofs.Common.{◌≡◌, ℕ, zero, suc, ◌<◌, ◌≤◌, Bool, true, false, eqb, ltb, leb, List, [], ◌∷◌, length, get_or, set, Ok, Err, Result, sym, refl, ap, ◌∙◌, subst, ap₂, arith}
-use Rattle.std.specs.List.{AllByRecursion as All}
+use Rattle.std.specs.List.{AllByRecursion}
 use Rattle.std.proofs.lemmas.List.{get_or-set_same}
 use Rattle.std.proofs.ByRecursion.{All-get_or}
 use Rattle.std.proofs.lemmas.Bool.{eq-eqb, ne_eqb, lt-ltb, le-ltb, and_from, and_right}
@@ -20,7 +20,7 @@ use Rattle.steps.specs.Served.{Writes, Serves}
 use Rattle.steps.proofs.Serving.{serves_refused, serves_done, serves_unwritten}
 
 -- no bank has a mark that is too large to be one
-pub no_such_mark : (m : ℕ) (bs : List Bank) → 18446744073709551616 ≤ m → All (λ (b : Bank). (b.mark < 18446744073709551616) × All CellFits b.cells) bs → place_of m bs ≡ length bs
+pub no_such_mark : (m : ℕ) (bs : List Bank) → 18446744073709551616 ≤ m → AllByRecursion (λ (b : Bank). (b.mark < 18446744073709551616) × AllByRecursion CellFits b.cells) bs → place_of m bs ≡ length bs
 unfolding place_of
 no_such_mark m [] large fit = refl
 no_such_mark m (b ∷ bs) large fit =

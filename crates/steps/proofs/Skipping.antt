@@ -1,6 +1,6 @@
 -- Those at the front of the queue that are ahead: what going on without them leaves, and that looking at the queue is that and then a beginning.
 use Rattle.std.proofs.Common.{◌≡◌, ℕ, zero, suc, true, false, List, [], ◌∷◌, sym, refl, ap, ◌∙◌}
-use Rattle.std.specs.List.{AllByRecursion as All}
+use Rattle.std.specs.List.{AllByRecursion}
 use Rattle.protocol.specs.Data.{pick, Data, Duty}
 use Rattle.protocol.specs.Client.{has_slot, ahead_of}
 use Rattle.safety.proofs.Picks.{pick_both}
@@ -76,9 +76,9 @@ skipped_keeps (y ∷ ys) t =
     let one = same_learnt ds y t in
     pick_both (has_slot y.slot t.ahead) (skipped ys (learnt ds y t)) (with_queue (y ∷ ys) t) (λ (u : Stored). (u.active ≡ t.active) × (u.at_hand ≡ t.at_hand)) (λ _. (rest.0 ∙ one.0, rest.1 ∙ one.1)) (λ _. (refl, refl))
 
-pub skipped_all : (P : Duty → Type 0) (ys : List Duty) (t : Stored) → All P ys → All P (skipped ys t).queue
+pub skipped_all : (P : Duty → Type 0) (ys : List Duty) (t : Stored) → AllByRecursion P ys → AllByRecursion P (skipped ys t).queue
 unfolding skipped
 skipped_all P [] t h = tt
 skipped_all P (y ∷ ys) t h =
     let ds : List Data = ahead_of y.slot t.ahead in
-    pick_both (has_slot y.slot t.ahead) (skipped ys (learnt ds y t)) (with_queue (y ∷ ys) t) (λ (u : Stored). All P u.queue) (λ _. skipped_all P ys (learnt ds y t) h.1) (λ _. h)
+    pick_both (has_slot y.slot t.ahead) (skipped ys (learnt ds y t)) (with_queue (y ∷ ys) t) (λ (u : Stored). AllByRecursion P u.queue) (λ _. skipped_all P ys (learnt ds y t) h.1) (λ _. h)

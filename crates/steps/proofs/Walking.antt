@@ -1,6 +1,6 @@
 -- The walk of what is ahead beside the queue: where it stands, and what each turn does.
 use Rattle.std.proofs.Common.{◌≡◌, ℕ, zero, suc, ◌+◌, ◌-◌, ◌<◌, ◌≤◌, List, [], ◌∷◌, length, take, drop, sym, refl, ap, ◌∙◌, subst, arith}
-use Rattle.std.specs.List.{AllByRecursion as All}
+use Rattle.std.specs.List.{AllByRecursion}
 use Rattle.std.proofs.lemmas.List.{drop_all}
 use Rattle.protocol.specs.Data.{Data, Duty}
 use Rattle.protocol.specs.Client.{slots}
@@ -16,14 +16,14 @@ use Rattle.steps.proofs.Skipping.{skip_one, skip_none, skip_empty}
 
 -- data for a slot below all of these duties'
 abbrev Before : List Duty → Data → Type 0
-Before ys d = All (λ (y : Duty). d.slot < y.slot) ys
+Before ys d = AllByRecursion (λ (y : Duty). d.slot < y.slot) ys
 
 -- the first i that are ahead are before all that waits; slots are in order; so many wait
 pub record Walk (i left : ℕ) (t : Stored) : Type 0 where
-  pub wait : All SlotFits t.queue
+  pub wait : AllByRecursion SlotFits t.queue
   pub queue : Ascending (duty_slots t.queue)
   pub ahead : Ascending (slots t.ahead)
-  pub passed : All (Before t.queue) (take i t.ahead)
+  pub passed : AllByRecursion (Before t.queue) (take i t.ahead)
   pub count : left ≡ length t.queue
 
 -- memory holds a client from which the walk goes on to the goal
@@ -47,34 +47,34 @@ none_in_list [] e = refl
 none_in_list (x ∷ xs) e = absurd (let v : ◌≡◌ {A = ℕ} 0 1 = ap length e in omega arith)
 
 -- what is before all of these is before each
-before_first : (y : Duty) (ys : List Duty) (ds : List Data) → All (Before (y ∷ ys)) ds → All (λ (d : Data). d.slot < y.slot) ds
+before_first : (y : Duty) (ys : List Duty) (ds : List Data) → AllByRecursion (Before (y ∷ ys)) ds → AllByRecursion (λ (d : Data). d.slot < y.slot) ds
 before_first y ys [] h = tt
 before_first y ys (d ∷ ds) h = (h.0.0, before_first y ys ds h.1)
 
-before_rest : (y : Duty) (ys : List Duty) (ds : List Data) → All (Before (y ∷ ys)) ds → All (Before ys) ds
+before_rest : (y : Duty) (ys : List Duty) (ds : List Data) → AllByRecursion (Before (y ∷ ys)) ds → AllByRecursion (Before ys) ds
 before_rest y ys [] h = tt
 before_rest y ys (d ∷ ds) h = (h.0.1, before_rest y ys ds h.1)
 
-before_none : (ds : List Data) → All (Before []) ds
+before_none : (ds : List Data) → AllByRecursion (Before []) ds
 before_none [] = tt
 before_none (d ∷ ds) = (tt, before_none ds)
 
 -- a queue whose first is after some data has all after it
-after_first : (k : ℕ) (y : Duty) (ys : List Duty) → Ascending (duty_slots (y ∷ ys)) → k < y.slot → All (λ (x : Duty). k < x.slot) (y ∷ ys)
+after_first : (k : ℕ) (y : Duty) (ys : List Duty) → Ascending (duty_slots (y ∷ ys)) → k < y.slot → AllByRecursion (λ (x : Duty). k < x.slot) (y ∷ ys)
 after_first k y ys up h = (h, further ys up.0)
   where
-    further : (zs : List Duty) → All (λ j. y.slot < j) (duty_slots zs) → All (λ (x : Duty). k < x.slot) zs
+    further : (zs : List Duty) → AllByRecursion (λ j. y.slot < j) (duty_slots zs) → AllByRecursion (λ (x : Duty). k < x.slot) zs
     further [] a = tt
     further (x ∷ zs) a = (omega (arith, a.0), further zs a.1)
 
 -- one more entry has been passed
-passed_more : (P : Data → Type 0) (i : ℕ) (d : Data) (ds : List Data) → d ∷ [] ≡ take 1 (drop i ds) → All P (take i ds) → P d → All P (take (i + 1) ds)
-passed_more P i d ds e h p = subst (λ n. All P (take n ds)) (sym next) (go i ds e h)
+passed_more : (P : Data → Type 0) (i : ℕ) (d : Data) (ds : List Data) → d ∷ [] ≡ take 1 (drop i ds) → AllByRecursion P (take i ds) → P d → AllByRecursion P (take (i + 1) ds)
+passed_more P i d ds e h p = subst (λ n. AllByRecursion P (take n ds)) (sym next) (go i ds e h)
   where
     next : i + 1 ≡ suc i
     next = omega arith
 
-    go : (i : ℕ) (ds : List Data) → d ∷ [] ≡ take 1 (drop i ds) → All P (take i ds) → All P (take (suc i) ds)
+    go : (i : ℕ) (ds : List Data) → d ∷ [] ≡ take 1 (drop i ds) → AllByRecursion P (take i ds) → AllByRecursion P (take (suc i) ds)
     go zero [] e h = tt
     go zero (x ∷ ds) e h = let same : d ≡ x = cc in (subst P same p, tt)
     go (suc i) [] e h = tt
@@ -95,24 +95,24 @@ module _ (z : Sizes) (xs : List ℕ) (i left : ℕ) (goal : Stored) (w : OnTheWa
     q : w.client.queue ≡ y ∷ drop 1 w.client.queue
     q = first_of_list y w.client.queue first
 
-    low : All (λ (d : Data). d.slot < y.slot) (take i w.client.ahead)
-    low = before_first y (drop 1 w.client.queue) (take i w.client.ahead) (subst (λ (ys : List Duty). All (Before ys) (take i w.client.ahead)) q w.walk.passed)
+    low : AllByRecursion (λ (d : Data). d.slot < y.slot) (take i w.client.ahead)
+    low = before_first y (drop 1 w.client.queue) (take i w.client.ahead) (subst (λ (ys : List Duty). AllByRecursion (Before ys) (take i w.client.ahead)) q w.walk.passed)
 
     pub walk_fits : y.slot < 18446744073709551615
     walk_fits =
-        let all : All SlotFits (y ∷ drop 1 w.client.queue) = subst (λ (ys : List Duty). All SlotFits ys) q w.walk.wait in
+        let all : AllByRecursion SlotFits (y ∷ drop 1 w.client.queue) = subst (λ (ys : List Duty). AllByRecursion SlotFits ys) q w.walk.wait in
         omega (arith, all.0)
 
     pub walk_some : 0 < length w.client.queue
     walk_some = omega (arith, ap length q)
 
-    stops : All (λ (d : Data). y.slot < d.slot) (drop i w.client.ahead) → Held z xs goal
+    stops : AllByRecursion (λ (d : Data). y.slot < d.slot) (drop i w.client.ahead) → Held z xs goal
     stops high =
         subst (Held z xs) (sym (skip_none y (drop 1 w.client.queue) w.client q (none_between y.slot i w.client.ahead low high)) ∙ w.same) w.held
 
     -- all that is ahead has been passed
     pub walk_passed : [] ≡ take 1 (drop i w.client.ahead) → Held z xs goal
-    walk_passed e = stops (subst (λ (ds : List Data). All (λ (d : Data). y.slot < d.slot) ds) (sym (none_in_list (drop i w.client.ahead) e)) tt)
+    walk_passed e = stops (subst (λ (ds : List Data). AllByRecursion (λ (d : Data). y.slot < d.slot) ds) (sym (none_in_list (drop i w.client.ahead) e)) tt)
 
     module _ (d : Data) (there : d ∷ [] ≡ take 1 (drop i w.client.ahead)) where
       -- the next that is ahead is after the first that waits
@@ -145,9 +145,9 @@ module _ (z : Sizes) (xs : List ℕ) (i left : ℕ) (goal : Stored) (w : OnTheWa
           let c : Stored = w.client in
           let rest : List Duty = drop 1 c.queue in
           let found = found_there y.slot d same i c.ahead low (sym there) in
-          let all : All SlotFits (y ∷ rest) = subst (λ (zs : List Duty). All SlotFits zs) q w.walk.wait in
+          let all : AllByRecursion SlotFits (y ∷ rest) = subst (λ (zs : List Duty). AllByRecursion SlotFits zs) q w.walk.wait in
           let up : Ascending (duty_slots (y ∷ rest)) = subst (λ (zs : List Duty). Ascending (duty_slots zs)) q w.walk.queue in
-          let passed : All (Before (y ∷ rest)) (take i c.ahead) = subst (λ (zs : List Duty). All (Before zs) (take i c.ahead)) q w.walk.passed in
+          let passed : AllByRecursion (Before (y ∷ rest)) (take i c.ahead) = subst (λ (zs : List Duty). AllByRecursion (Before zs) (take i c.ahead)) q w.walk.passed in
           record {
             client = with_queue rest (learnt (d ∷ []) y c);
             held = held;
@@ -157,7 +157,7 @@ module _ (z : Sizes) (xs : List ℕ) (i left : ℕ) (goal : Stored) (w : OnTheWa
                   queue = up.1;
                   ahead = rises_without y.slot c.ahead w.walk.ahead;
                   passed =
-                      subst (λ (zs : List Data). All (Before rest) zs) (sym (front_stays y.slot i c.ahead low (inside i d c.ahead there)))
+                      subst (λ (zs : List Data). AllByRecursion (Before rest) zs) (sym (front_stays y.slot i c.ahead low (inside i d c.ahead there)))
                       (before_rest y rest (take i c.ahead) passed);
                   count = omega (arith, w.walk.count, ap length q);
                 };
@@ -176,7 +176,7 @@ module _ (z : Sizes) (xs : List ℕ) (i left : ℕ) (goal : Stored) (w : OnTheWa
               wait = w.walk.wait;
               queue = w.walk.queue;
               ahead = w.walk.ahead;
-              passed = subst (λ (ys : List Duty). All (Before ys) (take (i + 1) w.client.ahead)) (sym none) (before_none (take (i + 1) w.client.ahead));
+              passed = subst (λ (ys : List Duty). AllByRecursion (Before ys) (take (i + 1) w.client.ahead)) (sym none) (before_none (take (i + 1) w.client.ahead));
               count = w.walk.count;
             };
         same = w.same;

@@ -4,7 +4,7 @@ ghost use Rattle.wire.specs.Meaning.{data_of, duty_of};
 ghost use Rattle.stored.specs.Stored.{Stored, with_queue, with_banks, freed};
 ghost use Rattle.stored.specs.Numbers.{needed};
 ghost use Rattle.stored.specs.Kept.{Held};
-ghost use Rattle.std.specs.List.{AllByRecursion as All};
+ghost use Rattle.std.specs.List.{AllByRecursion};
 ghost use Rattle.layout.specs.Layout.{sizes};
 ghost use Rattle.store.specs.Store.{duty_found};
 ghost use Rattle.steps.specs.Orderly.{SlotFits, Orderly};
@@ -87,7 +87,7 @@ pub(crate) fn skip_shown(memory: &mut [u64], layout: &Layout)
 // Begins the first that waits: of what is being decided the last are kept, and what goes is no longer listened for.
 fn begin(memory: &mut [u64], layout: &Layout, first: &Duty)
     requires { length memory.old ≡ needed (sizes layout.now) }
-    ensures { (t : Stored) → Held (sizes layout.now) memory.old t → All SlotFits t.active → first.now.slot < 18446744073709551615 → 0 < length t.queue →
+    ensures { (t : Stored) → Held (sizes layout.now) memory.old t → AllByRecursion SlotFits t.active → first.now.slot < 18446744073709551615 → 0 < length t.queue →
         Held (sizes layout.now) memory.new (started (duty_of first.now) (drop 1 t.queue) t) }
 {
     if let Some(last) = duty_at(memory, layout, Duties::Deciding, layout.waiting - 1) {

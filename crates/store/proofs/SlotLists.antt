@@ -1,7 +1,7 @@
 -- What is for some slots only, in any of the three lists.
 use Rattle.std.proofs.Common.{◌≡◌, ℕ, zero, suc, ◌-◌, ◌<◌, Bool, eqb, leb, List, [], ◌∷◌, map, length, get_or, take, drop, sym, refl, ap, ◌∙◌, subst, ap₂, arith}
 use borrow.Rule.Slice.PartMut.{put_mid}
-use Rattle.std.specs.List.{AllByRecursion as All}
+use Rattle.std.specs.List.{AllByRecursion}
 use Rattle.protocol.specs.Data.{Data, first_of}
 use Rattle.protocol.specs.Client.{Share, by_slot, own_with}
 use Rattle.past.proofs.Laws.{first_of_is}
@@ -62,7 +62,7 @@ module _ (z : Sizes) (s : Span) (xs : List ℕ) (t : Stored) (h : Held z xs t) (
       (first_stay _ (own_with x t.own) (own_with_is x t.own))
 
 -- a signer that is a byte is one in its row
-pub signer_byte : (row : List ℕ) (m : ℕ) (ss : List Share) → row ∷ [] ≡ map share_numbers (take 1 (drop m ss)) → All (λ (x : Share). x.who < 256) ss → get_or row 0 0 < 256
+pub signer_byte : (row : List ℕ) (m : ℕ) (ss : List Share) → row ∷ [] ≡ map share_numbers (take 1 (drop m ss)) → AllByRecursion (λ (x : Share). x.who < 256) ss → get_or row 0 0 < 256
 unfolding share_numbers
 signer_byte row zero [] e all = absurd (let v : ◌≡◌ {A = ℕ} 1 0 = ap length e in omega arith)
 signer_byte row (suc m) [] e all = absurd (let v : ◌≡◌ {A = ℕ} 1 0 = ap length e in omega arith)

@@ -1,6 +1,6 @@
 // A client's own shares.
 ghost use Rattle.std.specs.Prelude.{◌≡◌, ◌<◌, length, take, drop};
-ghost use Rattle.std.specs.List.{AllByRecursion as All};
+ghost use Rattle.std.specs.List.{AllByRecursion};
 ghost use Rattle.protocol.specs.Client.{Share as SomeShare, own_with};
 ghost use Rattle.protocol.specs.Data.{first_of};
 ghost use Rattle.wire.specs.Meaning.{share_of};
@@ -43,7 +43,7 @@ pub fn put_own(memory: &mut [u64], layout: &Layout, share: &Share)
 // The own share at a place, the largest slot first, if there are so many.
 pub fn own_at(memory: &[u64], layout: &Layout, place: usize) -> Option<Share>
     requires { length memory.now ≡ needed (sizes layout.now) }
-    ensures { (t : Stored) → Held (sizes layout.now) memory.now t → All (λ (s : SomeShare). s.who < 256) t.own → share_found result ≡ take 1 (drop place t.own) }
+    ensures { (t : Stored) → Held (sizes layout.now) memory.now t → AllByRecursion (λ (s : SomeShare). s.who < 256) t.own → share_found result ≡ take 1 (drop place t.own) }
 {
     let Span { start, end } = layout.span(Region::Own);
     match lists::at(&memory[start..end], 18, layout.waiting, place) {

@@ -1,6 +1,6 @@
 -- A region that holds a list, and the regions of banks: how many numbers they have, and that they are read back.
 use Rattle.std.proofs.Common.{◌≡◌, ℕ, ◌+◌, ◌*◌, ◌≤◌, List, [], ◌∷◌, ◌++◌, map, length, sym, refl, ap, ◌∙◌, ap₂, arith, drop_at}
-use Rattle.std.specs.List.{AllByRecursion as All}
+use Rattle.std.specs.List.{AllByRecursion}
 use Rattle.std.proofs.lemmas.List.{length-map}
 use Rattle.rows.specs.Rows.{Wide, rows, flat, laid}
 use Rattle.rows.proofs.Laws.{rows_flat}
@@ -42,7 +42,7 @@ bank_length n b e =
 
 -- banks that have a cell for each of n clients
 abbrev pub Celled : ℕ → List Bank → Type 0
-Celled n bs = All (λ (b : Bank). length b.cells ≡ n) bs
+Celled n bs = AllByRecursion (λ (b : Bank). length b.cells ≡ n) bs
 
 pub wide_banks : (n : ℕ) (bs : List Bank) → Celled n bs → Wide (18 * n) (map bank_numbers bs)
 wide_banks n [] h = tt

@@ -1,6 +1,6 @@
 -- The numbers of a client whose fields fit into 64 bits are below 2^64.
 use Rattle.std.proofs.Common.{◌≡◌, ℕ, zero, suc, ◌<◌, ◌≤◌, true, ltb, List, [], ◌∷◌, ◌++◌, map, length, replicate, refl, arith}
-use Rattle.std.specs.List.{AllByRecursion as All}
+use Rattle.std.specs.List.{AllByRecursion}
 use Rattle.std.proofs.ByRecursion.{All-append, All-map, All-weaker, Decides-by_and}
 use Rattle.std.proofs.lemmas.Bool.{and_parts, ltb-true}
 use Rattle.std.proofs.lemmas.Bool.Decides.{Decides-ltb}
@@ -18,7 +18,7 @@ abbrev Below : ℕ → Type 0
 Below x = x < 18446744073709551616
 
 abbrev pub Small : List ℕ → Type 0
-Small xs = All Below xs
+Small xs = AllByRecursion Below xs
 
 pub small_below : (xs : List ℕ) → Small xs → all_below 18446744073709551616 xs ≡ true
 unfolding all_below
@@ -30,12 +30,12 @@ small_zeros zero = tt
 small_zeros (suc n) = (omega arith, small_zeros n)
 
 -- parts one after another, and a region that holds a list
-small_flat : (ps : List (List ℕ)) → All Small ps → Small (flat ps)
+small_flat : (ps : List (List ℕ)) → AllByRecursion Small ps → Small (flat ps)
 unfolding flat
 small_flat [] h = tt
 small_flat (p ∷ ps) h = All-append Below p (flat ps) h.0 (small_flat ps h.1)
 
-small_laid : (w n : ℕ) (rs : List (List ℕ)) → All Small rs → Small (laid w n rs)
+small_laid : (w n : ℕ) (rs : List (List ℕ)) → AllByRecursion Small rs → Small (laid w n rs)
 unfolding laid
 small_laid w zero rs h = tt
 small_laid w (suc n) [] h =
@@ -43,7 +43,7 @@ small_laid w (suc n) [] h =
 small_laid w (suc n) (r ∷ rs) h =
     All-append Below r (laid w n rs) h.0 (small_laid w n rs h.1)
 
-small_listed : {A : Type 0} (w n : ℕ) (numbers : A → List ℕ) (xs : List A) → length xs ≤ n → n ≤ 4096 → All (λ x. Small (numbers x)) xs → Small (listed w n numbers xs)
+small_listed : {A : Type 0} (w n : ℕ) (numbers : A → List ℕ) (xs : List A) → length xs ≤ n → n ≤ 4096 → AllByRecursion (λ x. Small (numbers x)) xs → Small (listed w n numbers xs)
 unfolding listed
 small_listed w n numbers xs fits few h = (omega arith, small_laid w n (map numbers xs) (All-map Small numbers xs h))
 
@@ -97,14 +97,14 @@ small_cell (holds seat d) h = (omega arith, (fits_eight seat h.0, small_data d h
 
 -- banks whose numbers fit: their marks, and their cells
 abbrev BanksFit : List Bank → Type 0
-BanksFit bs = All (λ (b : Bank). (b.mark < 18446744073709551616) × All CellFits b.cells) bs
+BanksFit bs = AllByRecursion (λ (b : Bank). (b.mark < 18446744073709551616) × AllByRecursion CellFits b.cells) bs
 
 small_marks : (bs : List Bank) → BanksFit bs → Small (marks bs)
 unfolding marks
 small_marks bs h =
     All-map Below (λ b. b.mark) bs (All-weaker _ _ (λ b k. k.0) bs h)
 
-small_bank : (b : Bank) → All CellFits b.cells → Small (bank_numbers b)
+small_bank : (b : Bank) → AllByRecursion CellFits b.cells → Small (bank_numbers b)
 unfolding bank_numbers
 small_bank b h = small_flat (map cell_numbers b.cells) (All-map Small cell_numbers b.cells (All-weaker _ _ small_cell b.cells h))
 

@@ -1,14 +1,14 @@
 -- A client that was just opened stands for a new one: all its banks are free. Assumes nothing.
 use Rattle.std.proofs.Common.{◌≡◌, ℕ, zero, suc, ◌*◌, [], replicate, refl, arith}
 use lib.ListN.{length-replicate}
-use Rattle.std.specs.List.{AllByRecursion as All}
+use Rattle.std.specs.List.{AllByRecursion}
 use Rattle.std.proofs.lemmas.Bool.{ne_eqb}
 use Rattle.protocol.specs.Data.{pick, first_of}
 use Rattle.stored.specs.Stored.{free_bank}
 use Rattle.stored.specs.Stands.{bank_of, AsMarked, banks_for, duties_for, FreshStands}
 
 -- each of them is as its mark asks, and none has the mark of a slot
-free_each : (n m : ℕ) → All (AsMarked n []) (replicate m (free_bank n))
+free_each : (n m : ℕ) → AllByRecursion (AsMarked n []) (replicate m (free_bank n))
 unfolding bank_of
 free_each n zero = tt
 free_each n (suc m) = (refl, free_each n m)

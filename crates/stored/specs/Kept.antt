@@ -1,6 +1,6 @@
 -- What holds of a stored client: its lists have their bounds, its numbers fit, and its memory can be read back. Definitions and statements; assumes nothing.
 use Rattle.std.specs.Prelude.{◌≡◌, ℕ, suc, ◌+◌, ◌*◌, ◌<◌, ◌≤◌, true, List, length}
-use Rattle.std.specs.List.{AllByRecursion as All}
+use Rattle.std.specs.List.{AllByRecursion}
 use Rattle.protocol.specs.Data.{Data, Past, Duty}
 use Rattle.protocol.specs.Client.{Share, duty, share}
 use Rattle.protocol.specs.Promise.{eight, carried, readable, all_below}
@@ -26,7 +26,7 @@ pub record Well (t : Stored) : Type 0 where
   pub ahead : length t.ahead ≤ t.sizes.waiting
   pub own : length t.own ≤ t.sizes.waiting
   pub banks : length t.banks ≡ 2 * t.sizes.waiting
-  pub cells : All (λ (b : Bank). length b.cells ≡ t.sizes.clients) t.banks
+  pub cells : AllByRecursion (λ (b : Bank). length b.cells ≡ t.sizes.clients) t.banks
 
 -- a memory that holds a client
 pub record Held (z : Sizes) (xs : List ℕ) (t : Stored) : Type 0 where
@@ -47,12 +47,12 @@ pub record Fits (t : Stored) : Type 0 where
   pub at_hand : t.at_hand ≤ 1
   pub latest : t.latest < 18446744073709551616
   pub after : t.after < 18446744073709551616
-  pub past : All (λ (p : Past). (p.from < 18446744073709551616) × (p.to < 18446744073709551616)) t.past
-  pub queue : All DutyFits t.queue
-  pub active : All DutyFits t.active
-  pub ahead : All (λ (d : Data). carried d ≡ true) t.ahead
-  pub own : All (λ (s : Share). readable (share s) ≡ true) t.own
-  pub banks : All (λ (b : Bank). (b.mark < 18446744073709551616) × All CellFits b.cells) t.banks
+  pub past : AllByRecursion (λ (p : Past). (p.from < 18446744073709551616) × (p.to < 18446744073709551616)) t.past
+  pub queue : AllByRecursion DutyFits t.queue
+  pub active : AllByRecursion DutyFits t.active
+  pub ahead : AllByRecursion (λ (d : Data). carried d ≡ true) t.ahead
+  pub own : AllByRecursion (λ (s : Share). readable (share s) ≡ true) t.own
+  pub banks : AllByRecursion (λ (b : Bank). (b.mark < 18446744073709551616) × AllByRecursion CellFits b.cells) t.banks
 
 -- a memory is read back as the client that it was made of
 abbrev pub ReadsBack : Type 0

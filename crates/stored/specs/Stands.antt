@@ -1,7 +1,7 @@
 -- What a stored client stands for: limits and a state of the definitions. All but the banks is told by these; a bank is free, or has what came for a slot.
 -- Assumes nothing: these are definitions and a statement.
 use Rattle.std.specs.Prelude.{◌≡◌, ℕ, zero, suc, ◌*◌, ◌&&◌, List, [], ◌∷◌, ◌++◌, map, length, ◌==◌}
-use Rattle.std.specs.List.{range_with_len, AllByRecursion as All}
+use Rattle.std.specs.List.{range_with_len, AllByRecursion}
 use Rattle.protocol.specs.Data.{pick, Duty, first_of}
 use Rattle.protocol.specs.Client.{Share, Limits, State, new_client}
 use Rattle.stored.specs.Stored.{Cell, empty, holds, Bank, Stored, sizes_of, free_bank, fresh}
@@ -58,7 +58,7 @@ duties_for k (y ∷ ys) = pick (y.slot == k) (suc (duties_for k ys)) (duties_for
 -- which is at most one; so no bank has another mark, and all the others are free
 pub record BanksHold (n w : ℕ) (got : List Share) (ys : List Duty) (bs : List Bank) : Type 0 where
   pub many : length bs ≡ 2 * w
-  pub each : All (AsMarked n got) bs
+  pub each : AllByRecursion (AsMarked n got) bs
   pub marks : (k : ℕ) → banks_for (suc k) bs ≡ duties_for k ys
 
 -- a stored client stands for limits and a state: all but the banks is what these say, the duty at hand is the last one begun, and the banks hold what came for the slots that are listened for

@@ -2,11 +2,11 @@
 use Rattle.std.specs.Prelude.{ℕ, zero, suc, ◌+◌, ◌*◌, ◌/◌, ◌%◌, ◌<◌, List, [], ◌∷◌, ◌++◌, take, drop}
 use Rattle.protocol.specs.Data.{Data, Duty}
 use Rattle.protocol.specs.Client.{Share}
-use Rattle.std.specs.List.{AllByRecursion as All}
+use Rattle.std.specs.List.{AllByRecursion}
 
 -- numbers that are bytes, each below 256
 abbrev pub AllBytes : List ℕ → Type 0
-AllBytes bs = All (λ b. b < 256) bs
+AllBytes bs = AllByRecursion (λ b. b < 256) bs
 
 -- a number as k bytes, the low byte first
 unfoldable pub le_bytes : ℕ → ℕ → List ℕ

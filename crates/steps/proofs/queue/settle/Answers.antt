@@ -1,6 +1,6 @@
 -- Those that are ahead go, and then the first is begun.
 use Rattle.std.proofs.Common.{List, sym, ◌∙◌, subst, arith}
-use Rattle.std.specs.List.{AllByRecursion as All}
+use Rattle.std.specs.List.{AllByRecursion}
 use Rattle.protocol.specs.Data.{Duty}
 use Rattle.wire.specs.Meaning.{duty_of}
 use Rattle.stored.specs.Stored.{Stored}
@@ -27,7 +27,7 @@ returns-in-Some c t h r =
     let hand = c.get.ensures _ u held in
     let y : Duty = duty_of c.in-Some.first in
     let first = c.in-Some.ensures u held in
-    let deciding : All SlotFits u.active = subst (λ (ys : List Duty). All SlotFits ys) (sym (skipped_keeps t.queue t).0) r.deciding in
+    let deciding : AllByRecursion SlotFits u.active = subst (λ (ys : List Duty). AllByRecursion SlotFits ys) (sym (skipped_keeps t.queue t).0) r.deciding in
     subst (λ (v : Stored). Held (sizes c.args.layout.now) c.begin.new.memory v) (begins y u (omega arith) first ∙ sym (settle_is t.queue t))
     (c.begin.ensures u held deciding (fits_there 0 y u.queue first (skipped_all SlotFits t.queue t r.waiting)) (some_waits y u.queue first))
 
