@@ -7,13 +7,22 @@ mod trouble;
 
 use crate::play::play;
 use std::env;
+use std::process::ExitCode;
 
 // The program has said what is wrong, and ends with status 1.
 #[derive(Debug, Drop)]
 pub struct Stopped;
 
-fn main(rt: HostRuntime) -> Result<(), Stopped> {
-    let Ok(args) = env::args(&rt) else {
+fn main(rt: HostRuntime) -> ExitCode {
+    match played(&rt) {
+        Ok(()) => ExitCode::SUCCESS,
+        Err(Stopped) => ExitCode::FAILURE,
+    }
+}
+
+// Plays each file that is named.
+fn played(rt: &HostRuntime) -> Result<(), Stopped> {
+    let Ok(args) = env::args(rt) else {
         let _ = eprintln!(rt; "run_client: the arguments can't be read");
         return Err(Stopped);
     };
@@ -29,7 +38,7 @@ fn main(rt: HostRuntime) -> Result<(), Stopped> {
         if words.len() > 2 {
             let _ = println!(rt; "# {name}");
         }
-        play(&rt, name.as_str())?;
+        play(rt, name.as_str())?;
     }
     Ok(())
 }
