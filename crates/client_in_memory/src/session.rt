@@ -1,4 +1,4 @@
-// A client in use: a call has the same promises as on the lent memory, and any sequence of calls is covered by them.
+// A client in use: it holds the memory that was lent to open it. Each call promises of that memory what it promises of lent memory.
 ghost use Rattle.std.specs.Prelude.{◌≡◌, [], MatchResult};
 ghost use Rattle.protocol.specs.Meaning.{limits_of};
 ghost use Rattle.wire.specs.Meaning.{data_of};

@@ -107,7 +107,7 @@ WholeIsDecided =
     (can : ℕ → Bool) (f : Keeper) (g : Group) (w : World) (d : Data) → Right can f → GoodGroup can g → Lived f g w → world_readable g w →
     whole g w d ≡ true → w.verdict d.slot ≡ d ∷ []
 
--- 5. what is being decided at a client is for slots below any duty that it would still take; that duties are begun in order is Begun-in-order
+-- 5. what is being decided at a client is for slots below any duty that it would still take; that duties are begun in order is BegunInOrder
 unfoldable pub all_before : ℕ → List Duty → Bool
 all_before k [] = true
 all_before k (y ∷ ys) = nat_lt y.slot k && all_before k ys

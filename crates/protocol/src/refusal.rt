@@ -1,6 +1,6 @@
 // Why an event is turned away.
 ghost use Rattle.std.specs.Prelude.{◌≡◌};
-ghost use Rattle.protocol.specs.Refusals.{number as number_of_lem};
+ghost use Rattle.protocol.specs.Refusals.{number as number_of};
 ghost use Rattle.protocol.specs.Meaning.{refusal_of};
 
 // The refusals, in the order in which they are looked for.
@@ -25,7 +25,7 @@ pub enum Refusal {
 impl Refusal {
     // The number by which an answer names it.
     pub fn number(self) -> u8
-        ensures { result ≡ number_of_lem (refusal_of self) }
+        ensures { result ≡ number_of (refusal_of self) }
     {
         self as u8
     }

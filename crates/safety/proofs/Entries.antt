@@ -6,7 +6,7 @@ use Rattle.protocol.specs.Data.{pick, Data, Past, past_of, clash, clashes, least
 use Rattle.protocol.specs.Client.{Event, duty, decided, Limits, State, share_of, event_number, has_slot, begin_or_wait, next, own_with, good_fields, turned_by, by_decided, stepped, after, state}
 use Rattle.protocol.specs.World.{Keeper}
 use Rattle.protocol.specs.Promise.{carried, all_readable}
-use Rattle.safety.specs.Weaker.{RightClient, lets, Takeable, Goes_on, ItLooksAtEach}
+use Rattle.safety.specs.Weaker.{RightClient, lets, Takeable, GoesOn, ItLooksAtEach}
 use Rattle.safety.proofs.Firsts.{begun_second, lets_as, can_duty, can_decided, slot_read, second_state, duty_read, decided_read, signed_read}
 use Rattle.safety.proofs.Pasts.{clash_not}
 use Rattle.safety.proofs.Picks.{pick_both, pick_true}
@@ -17,11 +17,11 @@ abbrev clash_at_all : Data → Data → Bool
 clash_at_all a d = clash (past_of a) (past_of d) || clash (past_of d) (past_of a)
 
 -- they do not just where one goes on from the other
-apart_if : (a d : Data) → Goes_on a d ⊎ Goes_on d a → clash_at_all a d ≡ false
+apart_if : (a d : Data) → GoesOn a d ⊎ GoesOn d a → clash_at_all a d ≡ false
 apart_if a d (inl on) = grind (arith, nat_tests)
 apart_if a d (inr on) = grind (arith, nat_tests)
 
-apart_is : (a d : Data) → clash_at_all a d ≡ false → Goes_on a d ⊎ Goes_on d a
+apart_is : (a d : Data) → clash_at_all a d ≡ false → GoesOn a d ⊎ GoesOn d a
 apart_is a d h =
     let p = or_parts (clash (past_of a) (past_of d)) (clash (past_of d) (past_of a)) h in
     let one = clash_not (past_of a) (past_of d) p.0 in
@@ -31,8 +31,8 @@ apart_is a d h =
     (λ more. inr (more, ⊎_elim (λ within. absurd (one.1 within more)) (λ le. le) (cases_lt a.source d.source)))) (cases_order a.target d.target)
 
 -- two entries, of which the second has the later target, and data that goes on from the first: it is safe just where it and the second go on one from the other
-module _ (a b d : Data) (rising : a.target < b.target) (on : Goes_on a d) where
-  two_safe_if : Goes_on b d ⊎ Goes_on d b → unsafe (past_of b ∷ (past_of a ∷ [])) d ≡ false
+module _ (a b d : Data) (rising : a.target < b.target) (on : GoesOn a d) where
+  two_safe_if : GoesOn b d ⊎ GoesOn d b → unsafe (past_of b ∷ (past_of a ∷ [])) d ≡ false
   unfolding unsafe least_to least_from clashes
   two_safe_if h =
       let least : ℕ = pick (ltb a.source b.source) a.source b.source in
@@ -40,7 +40,7 @@ module _ (a b d : Data) (rising : a.target < b.target) (on : Goes_on a d) where
       pick_both (ltb a.source b.source) a.source b.source (λ m. m ≤ d.source) (λ _. on.1) (λ e. omega (arith, ltb-false a.source b.source e, on.1)) in
       rw (pick_true (ltb a.target b.target) a.target b.target (lt-ltb a.target b.target rising), lt-leb d.target a.target on.0, le-ltb d.source least low, apart_if b d h, apart_if a d (inl on))
 
-  two_safe_is : unsafe (past_of b ∷ (past_of a ∷ [])) d ≡ false → Goes_on b d ⊎ Goes_on d b
+  two_safe_is : unsafe (past_of b ∷ (past_of a ∷ [])) d ≡ false → GoesOn b d ⊎ GoesOn d b
   unfolding unsafe clashes
   two_safe_is h = apart_is b d (or_parts (clash_at_all b d) (clash_at_all a d || false) (or_parts _ (clash_at_all b d || (clash_at_all a d || false)) h).1).0
 

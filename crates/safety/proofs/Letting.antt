@@ -7,7 +7,7 @@ use Rattle.protocol.specs.Data.{Data, Past, past_of, clashes, least_to, least_fr
 use Rattle.protocol.specs.Client.{duty, decided, Limits, new_client, for_some, state, some_valid}
 use Rattle.protocol.specs.World.{Keeper}
 use Rattle.protocol.specs.Promise.{eight, carried, all_readable}
-use Rattle.safety.specs.Weaker.{RightClient, lets, Takeable, Fits, Goes_on, ItLets, ItDoesNotLet, ItLooksWhenAsked}
+use Rattle.safety.specs.Weaker.{RightClient, lets, Takeable, Fits, GoesOn, ItLets, ItDoesNotLet, ItLooksWhenAsked}
 use Rattle.safety.proofs.Firsts.{begun_first, signed_first, begun_second, lets_as, slot_read, first_state, first_read, signed_state, signed_read, second_state, duty_read}
 
 -- data is valid for a duty if it fits it and is not unsafe, and only then
@@ -23,11 +23,11 @@ valid_is ps d y h =
     ((eqb-true d.slot y.slot place.0, eqb-true d.committee y.committee place.1, ltb-true d.source d.target rest.1), not-true (unsafe ps d) rest.0)
 
 -- with one entry of the past, what goes on from it is not unsafe, and nothing else
-safe_if : (a b : Data) → Goes_on a b → unsafe (past_of a ∷ []) b ≡ false
+safe_if : (a b : Data) → GoesOn a b → unsafe (past_of a ∷ []) b ≡ false
 unfolding unsafe least_to least_from clashes
 safe_if a b (target, source) = grind (arith, nat_tests)
 
-safe_is : (a b : Data) → unsafe (past_of a ∷ []) b ≡ false → Goes_on a b
+safe_is : (a b : Data) → unsafe (past_of a ∷ []) b ≡ false → GoesOn a b
 unfolding unsafe least_to least_from
 safe_is a b h =
     let p = or_parts (leb b.target a.target || ltb b.source a.source) (clashes (past_of a ∷ []) (past_of b)) h in
@@ -122,7 +122,7 @@ it_does_not_let can f l c y z a b k t u ca cb ek = (new_lets can f l c k a ek ca
         (λ e. subst (λ (j : ℕ). lets f l (duty y ∷ []) j a ≡ false) (sym e) (first_lets can f l c y t a ca ∙ refuted (valid [] a y) (λ h. unfit (valid_is [] a y h).0)))
         (first_lets_other can f l c y t k a ek ca) (cases_eq k y.slot)
 
-    second : y.slot < z.slot → (¬ Fits z b) ⊎ (¬ Goes_on a b) → lets f l (duty z ∷ (decided y.slot a ∷ (duty y ∷ []))) z.slot b ≡ false
+    second : y.slot < z.slot → (¬ Fits z b) ⊎ (¬ GoesOn a b) → lets f l (duty z ∷ (decided y.slot a ∷ (duty y ∷ []))) z.slot b ≡ false
     second later bad =
         second_lets can f l c y t a ca z u later b cb
         ∙ refuted (valid (past_of a ∷ []) b z) (λ h. let r = valid_is (past_of a ∷ []) b z h in ⊎_elim (λ n. n r.0) (λ n. n (safe_is a b r.1)) bad)

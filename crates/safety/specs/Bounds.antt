@@ -29,7 +29,7 @@ SmallerQuorumFails =
     × ((n : ℕ) → 1 ≤ n → ¬ MeetAt n (quorum n - 1) (bad_at_most n))
 
 -- it fails with one bad client more than is allowed, in every group of 3k + 1 and in every group of 3k; in a group of 3k + 2 quorums would still
--- meet, by Meet-just-when
+-- meet, by MeetJustWhen
 abbrev pub OneBadMoreFails : Type 0
 OneBadMoreFails =
     (¬ QuorumsMeetWith quorum (λ n. suc (bad_at_most n))) × ((k : ℕ) → ¬ MeetAt (3 * k + 1) (quorum (3 * k + 1)) (suc (bad_at_most (3 * k + 1))))

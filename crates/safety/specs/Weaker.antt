@@ -31,8 +31,8 @@ abbrev pub Fits : Duty → Data → Type 0
 Fits y d = (d.slot ≡ y.slot) × (d.committee ≡ y.committee) × (d.source < d.target)
 
 -- data that goes on from other: its target is later, and its source no earlier
-abbrev pub Goes_on : Data → Data → Type 0
-Goes_on a b = (a.target < b.target) × (a.source ≤ b.source)
+abbrev pub GoesOn : Data → Data → Type 0
+GoesOn a b = (a.target < b.target) × (a.source ≤ b.source)
 
 -- a new client begins the duty that it is given at once, and when the deciding for its slot has come to data, whichever, it sends its own share of that for the
 -- duty's seat, and does nothing else
@@ -53,7 +53,7 @@ abbrev pub ItLets : Type 0
 ItLets =
     (can : ℕ → Bool) (f : Keeper) (l : Limits) → RightClient can f l → (y z : Duty) (a b : Data) → Takeable y → Takeable z → carried a ≡ true → carried b ≡ true →
     (Fits y a → lets f l (duty y ∷ []) y.slot a ≡ true)
-    × (y.slot < z.slot → Fits z b → Goes_on a b → lets f l (duty z ∷ (decided y.slot a ∷ (duty y ∷ []))) z.slot b ≡ true)
+    × (y.slot < z.slot → Fits z b → GoesOn a b → lets f l (duty z ∷ (decided y.slot a ∷ (duty y ∷ []))) z.slot b ≡ true)
 
 -- it lets nothing else: nothing with no duty, nothing for another slot, nothing that does not fit the duty, nothing that does not go on from what was decided
 -- before, as what has the same target, an earlier one, or an earlier source
@@ -63,17 +63,17 @@ ItDoesNotLet =
     eight k ≡ true →
     (lets f l [] k a ≡ false)
     × (k ≢ y.slot ⊎ ¬ Fits y a → lets f l (duty y ∷ []) k a ≡ false)
-    × (y.slot < z.slot → (¬ Fits z b) ⊎ (¬ Goes_on a b) → lets f l (duty z ∷ (decided y.slot a ∷ (duty y ∷ []))) z.slot b ≡ false)
+    × (y.slot < z.slot → (¬ Fits z b) ⊎ (¬ GoesOn a b) → lets f l (duty z ∷ (decided y.slot a ∷ (duty y ∷ []))) z.slot b ≡ false)
 
 -- it looks at each entry that it keeps, not only at the least: with two of them, data that goes on from the first is let where it goes on from the second or the second
 -- from it, and not where it has the second one's target, is around it or within it
 abbrev pub ItLooksAtEach : Type 0
 ItLooksAtEach =
     (can : ℕ → Bool) (f : Keeper) (l : Limits) → RightClient can f l → 2 ≤ l.kept → (x y z : Duty) (a b d : Data) → Takeable x → Takeable y → Takeable z →
-    carried a ≡ true → carried b ≡ true → carried d ≡ true → x.slot < y.slot → y.slot < z.slot → a.target < b.target → Fits z d → Goes_on a d →
+    carried a ≡ true → carried b ≡ true → carried d ≡ true → x.slot < y.slot → y.slot < z.slot → a.target < b.target → Fits z d → GoesOn a d →
     let es : List Event = duty z ∷ (decided y.slot b ∷ (duty y ∷ (decided x.slot a ∷ (duty x ∷ [])))) in
-    (Goes_on b d ⊎ Goes_on d b → lets f l es z.slot d ≡ true)
-    × (¬ (Goes_on b d ⊎ Goes_on d b) → lets f l es z.slot d ≡ false)
+    (GoesOn b d ⊎ GoesOn d b → lets f l es z.slot d ≡ true)
+    × (¬ (GoesOn b d ⊎ GoesOn d b) → lets f l es z.slot d ≡ false)
 
 -- it lets by the past as it is when it is asked. For one slot, and with no duty begun between: b is let before the deciding for the slot has come to a, and
 -- afterwards only if it goes on from a; so not a itself
@@ -81,8 +81,8 @@ abbrev pub ItLooksWhenAsked : Type 0
 ItLooksWhenAsked =
     (can : ℕ → Bool) (f : Keeper) (l : Limits) → RightClient can f l → (y : Duty) (a b : Data) → Takeable y → carried a ≡ true → carried b ≡ true → Fits y b →
     (lets f l (duty y ∷ []) y.slot b ≡ true)
-    × (Goes_on a b → lets f l (decided y.slot a ∷ (duty y ∷ [])) y.slot b ≡ true)
-    × (¬ Goes_on a b → lets f l (decided y.slot a ∷ (duty y ∷ [])) y.slot b ≡ false)
+    × (GoesOn a b → lets f l (decided y.slot a ∷ (duty y ∷ [])) y.slot b ≡ true)
+    × (¬ GoesOn a b → lets f l (decided y.slot a ∷ (duty y ∷ [])) y.slot b ≡ false)
 
 -- a share, by who signed, what and for which seat
 abbrev pub share_by : ℕ → Data → ℕ → Share

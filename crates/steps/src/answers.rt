@@ -2,7 +2,7 @@
 ghost use Rattle.std.specs.Prelude.{[]};
 ghost use Rattle.protocol.specs.Client.{refused, does};
 ghost use Rattle.protocol.specs.Meaning.{refusal_of};
-ghost use Rattle.protocol.specs.Refusals.{number as number_of_lem};
+ghost use Rattle.protocol.specs.Refusals.{number as number_of};
 ghost use Rattle.store.specs.Store.{share_found, data_found, duty_found};
 ghost use Rattle.steps.specs.Served.{Writes};
 
@@ -12,7 +12,7 @@ use wire::{Data, Duty, Share, Short};
 
 // Writes that an event is turned away.
 pub(crate) fn refuse(out: &mut [u8], refusal: Refusal) -> Result<usize, Short>
-    ensures { Writes (refused (number_of_lem (refusal_of refusal)) 0) out.old out.new result }
+    ensures { Writes (refused (number_of (refusal_of refusal)) 0) out.old out.new result }
 {
     write_refused(out, refusal.number(), 0)
 }
