@@ -35,7 +35,7 @@ fn with_three(
     source: u64,
     target: u64,
     after: [u64; 8],
-    res: usize,
+    kept: usize,
 ) -> Example {
     Example {
         before,
@@ -44,7 +44,7 @@ fn with_three(
         source,
         target,
         after,
-        result: res,
+        result: kept,
     }
 }
 
