@@ -1,15 +1,22 @@
--- What the numbers of a cell tell: whether it is empty, and whether it says the same as a share; and how many of the cells behind a place do.
-use Rattle.std.proofs.Common.{◌≡◌, ℕ, suc, ◌+◌, ◌-◌, ◌*◌, ◌<◌, ◌≤◌, Bool, true, false, eqb, List, ◌∷◌, length, get_or, take, drop, Decides, sym, refl, ap, ◌∙◌, subst, ap₂, add-one, arith, get_or-drop, get_or-take}
-use Rattle.std.proofs.lemmas.List.{drop_more, drop_all}
+-- What the numbers of a cell tell: whether it is empty, and whether it says the same as a share; and how many cells do.
+use Rattle.std.proofs.Common.{◌≡◌, ℕ, suc, ◌+◌, ◌*◌, ◌/◌, Bool, true, false, cond, eqb, List, [], ◌∷◌, map, length, get_or, take, drop, Decides, append-nil, sym, refl, ap, ◌∙◌, subst, arith, get_or-drop, get_or-take}
+use lib.Pointwise.{pointwise}
+use Rattle.std.specs.List.{filter}
+use Rattle.std.specs.Simd.{first_chunks}
+use Rattle.std.proofs.lemmas.List.{length-map}
 use Rattle.std.proofs.lemmas.Bool.{eqb-true, eq-eqb, ne_eqb, and_parts, and_from, false≢true}
-use Rattle.std.proofs.lemmas.Bool.Decides.{same_from_decides}
+use Rattle.std.proofs.lemmas.Bool.Decides.{same_from_decides, Decides-eqb}
+use Rattle.std.proofs.lemmas.Slice.Eq.{slice_eq-Decides}
 use Rattle.protocol.specs.Data.{pick, Data, same}
 use Rattle.safety.proofs.Same.{same_refl, same_to}
-use Rattle.stored.specs.Stored.{Cell, empty, holds, Bank, bank_at, is_empty, says, alike}
-use Rattle.stored.specs.Numbers.{data_numbers, cell_numbers, cell_in, bank_cells}
-use Rattle.stored.proofs.Entries.{cell_back}
-use Rattle.banks.specs.Banks.{Sized}
-use Rattle.banks.proofs.Places.{cells_most, cells_many, cell_at}
+use Rattle.rows.specs.Rows.{rows}
+use Rattle.rows.proofs.Laws.{chunks_are, rows_flat}
+use Rattle.stored.specs.Stored.{Cell, empty, holds, is_empty, says, alike}
+use Rattle.stored.specs.Numbers.{cell_numbers, cell_in}
+use Rattle.stored.proofs.Entries.{cell_back, cell_length}
+use Rattle.stored.proofs.Listed.{wide_map}
+use Rattle.stored.proofs.Parts.{wide_length}
+use Rattle.banks.specs.Banks.{numbers_of}
 
 -- the first number says whether a cell is empty
 first_tells : (x : ℕ) (c : Cell) → x ≡ get_or (cell_numbers c) 0 0 → eqb x 0 ≡ is_empty c
@@ -46,49 +53,31 @@ says_decides : (seat : ℕ) (d : Data) (c : Cell) → Decides (says seat d c) (c
 says_decides seat d c =
     (λ h. ap cell_numbers (says_tells seat d c h), λ e. subst (λ (x : Cell). says seat d x ≡ true) (sym (same_cell c (holds seat d) e)) (says_itself seat d))
 
--- one cell more before those that were counted
-alike_more : (seat : ℕ) (d : Data) (cs : List Cell) (i count : ℕ) (r : Bool) → i < length cs → count ≡ alike seat d (drop (i + 1) cs) →
-    Decides r (cell_numbers (get_or cs i empty) ≡ cell_numbers (holds seat d)) → pick r (suc count) count ≡ alike seat d (drop i cs)
+-- one cell more that is just the one that is wanted, or another
+counted_more : (r r' : Bool) (c : List ℕ) (rs : List (List ℕ)) (n : ℕ) → r ≡ r' → length rs ≡ n → length (cond r (c ∷ rs) rs) ≡ pick r' (suc n) n
+unfolding pick
+counted_more true true c rs n e h = ap suc h
+counted_more false false c rs n e h = h
+counted_more true false c rs n e h = absurd (false≢true (sym e))
+counted_more false true c rs n e h = absurd (false≢true e)
+
+pub same_count : (seat : ℕ) (d : Data) (cs : List Cell) → length (filter (λ c. pointwise eqb c (cell_numbers (holds seat d))) (map cell_numbers cs)) ≡ alike seat d cs
 unfolding alike
-alike_more seat d cs i count r h e t =
-    let test : r ≡ says seat d (get_or cs i empty) = same_from_decides r _ t (says_decides seat d (get_or cs i empty)) in
-    let rest : drop i cs ≡ get_or cs i empty ∷ drop (i + 1) cs = drop_more cs i empty h in
-    rw (rest, test, e)
+same_count seat d [] = refl
+same_count seat d (c ∷ cs) =
+    counted_more _ _ _ _ _
+    (same_from_decides (pointwise eqb (cell_numbers c) (cell_numbers (holds seat d))) _ (slice_eq-Decides Decides-eqb _ _ _ refl) (says_decides seat d c))
+    (same_count seat d cs)
 
--- of n clients, in the bank at the place p, those from the i-th on have been counted
-abbrev pub Counted : ℕ → ℕ → ℕ → Data → List ℕ → ℕ → ℕ → Type 0
-Counted n p seat d xs i count =
-    (count + i ≤ n) × ((bs : List Bank) → Sized n bs → xs ≡ bank_cells bs → count ≡ alike seat d (drop i (bank_at bs p).cells))
+-- how many numbers the cells of a bank have, and the cells as they are cut out of them
+pub how_many : (cs : List Cell) → length (numbers_of cs) ≡ 18 * length cs
+how_many cs =
+    wide_length 18 (map cell_numbers cs) (wide_map 18 cell_numbers cell_length cs) ∙ ap (λ k. 18 * k) (length-map cs cell_numbers)
 
--- none has been counted
-pub none_counted : (n p seat : ℕ) (d : Data) (xs : List ℕ) → Counted n p seat d xs n 0
-unfolding alike
-none_counted n p seat d xs =
-    (omega arith, λ bs sized is. sym (ap (alike seat d) (drop_all n (bank_at bs p).cells (cells_most n p bs sized))))
-
--- one client more, whose numbers the code compares with those that are wanted
-module _ (n p seat w count s k : ℕ) (d : Data) (xs wanted : List ℕ) (r : Bool) (fits : 18 * (n * p + n) ≤ length xs) (some : 0 < w) (most : w ≤ n) (before : Counted n p seat d xs w count) (start : s ≡ 18 * (n * p + (w - 1))) (width : k ≡ 18) (row : wanted ≡ 1 ∷ (seat ∷ data_numbers d)) (test : Decides r (take k (drop s xs) ≡ wanted)) where
-  sum : (bs : List Bank) → Sized n bs → xs ≡ bank_cells bs → pick r (suc count) count ≡ alike seat d (drop (w - 1) (bank_at bs p).cells)
-  unfolding cell_numbers
-  sum bs sized is =
-      let cs : List Cell = (bank_at bs p).cells in
-      let next : w ≡ w - 1 + 1 = omega arith in
-      let here : take k (drop s xs) ≡ cell_numbers (get_or cs (w - 1) empty) =
-      ap₂ (λ a b. take a (drop b xs)) width start ∙ cell_at n p bs xs sized is (omega arith) fits (w - 1) (omega arith) in
-      alike_more seat d cs (w - 1) count r (omega (arith, cells_many n p bs xs sized is (omega arith) fits))
-      (before.1 bs sized is ∙ ap (λ j. alike seat d (drop j cs)) next)
-      (rw (here, row) at test)
-
-  pub one_alike : r ≡ true → Counted n p seat d xs (w - 1) (count + 1)
-  unfolding pick
-  one_alike e = (omega (arith, before.0), λ bs sized is. add-one count ∙ rw e at (sum bs sized is))
-
-  pub one_other : r ≡ false → Counted n p seat d xs (w - 1) count
-  unfolding pick
-  one_other e = (omega (arith, before.0), λ bs sized is. rw e at (sum bs sized is))
-
--- all have been counted
-pub all_counted : (n p seat w count : ℕ) (d : Data) (xs : List ℕ) → w ≤ 0 → Counted n p seat d xs w count → (bs : List Bank) → Sized n bs → xs ≡ bank_cells bs → count ≡ alike seat d (bank_at bs p).cells
-all_counted n p seat w count d xs h counted bs sized is =
-    let none : w ≡ 0 = omega arith in
-    counted.1 bs sized is ∙ ap (λ j. alike seat d (drop j (bank_at bs p).cells)) none
+pub cut_out : (cs : List Cell) → first_chunks 18 (length (numbers_of cs) / 18) (numbers_of cs) ≡ map cell_numbers cs
+cut_out cs =
+    let many : length (numbers_of cs) / 18 ≡ length (map cell_numbers cs) = omega (arith, how_many cs, length-map cs cell_numbers) in
+    ap (λ n. first_chunks 18 n (numbers_of cs)) many
+    ∙ chunks_are 18 _ (numbers_of cs)
+    ∙ ap (rows 18 (length (map cell_numbers cs))) (sym (append-nil (numbers_of cs)))
+    ∙ rows_flat 18 (map cell_numbers cs) [] (wide_map 18 cell_numbers cell_length cs)

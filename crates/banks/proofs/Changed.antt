@@ -1,5 +1,5 @@
 -- Banks that are changed one at a time: what the change leaves as it was, and the bank of a slot that is freed.
-use Rattle.std.proofs.Common.{◌≡◌, ℕ, ◌+◌, ◌<◌, ◌≤◌, List, map, length, set, replicate, sym, refl, ap, ◌∙◌, subst, inl, inr, add-one}
+use Rattle.std.proofs.Common.{◌≡◌, ℕ, ◌+◌, ◌<◌, List, map, length, set, replicate, sym, refl, ap, ◌∙◌, subst, inl, inr, add-one}
 use Rattle.std.proofs.lemmas.List.{map-set, set-set, set-get_or, set_past, get_or-set_same}
 use Rattle.std.proofs.ByRecursion.{All-get_or, All-set}
 use Rattle.std.proofs.lemmas.Bool.{cases_lt}
@@ -46,7 +46,3 @@ freed_so n k p bs first inside =
     set-set bs p cleared (record { mark = 0; cells = (bank_at (set bs p cleared) p).cells })
     ∙ ap (λ (b : Bank). set bs p (record { mark = 0; cells = b.cells })) (get_or-set_same bs p cleared (free_bank 0) inside)
     ∙ at_its_place n k p bs first
-
--- no bank is the slot's: none is freed
-pub freed_none : (n k p : ℕ) (bs : List Bank) → p ≡ place_of (k + 1) bs → length bs ≤ p → bs ≡ freed n k bs
-freed_none n k p bs first past = sym (set_past bs p (free_bank n) past) ∙ at_its_place n k p bs first

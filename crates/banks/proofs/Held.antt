@@ -1,16 +1,22 @@
 -- The banks in a client's memory: their two regions as they are lent, and what writing one of them makes of the client.
-use Rattle.std.proofs.Common.{◌≡◌, ℕ, ◌-◌, ◌*◌, List, length, take, drop, set, refl, ap, ◌∙◌, subst}
+use Rattle.std.proofs.Common.{◌≡◌, ℕ, ◌+◌, ◌-◌, ◌*◌, ◌<◌, ◌≤◌, List, length, take, drop, set, replicate, sym, refl, ap, ◌∙◌, subst, ap₂, arith}
 use borrow.Rule.Slice.PartMut.{put_mid}
 use Rattle.std.proofs.lemmas.List.{length-set}
-use Rattle.std.proofs.ByRecursion.{All-set}
-use Rattle.stored.specs.Stored.{Cell, Bank, Sizes, Stored, with_banks, marked, with_cells}
-use Rattle.stored.specs.Numbers.{marks, bank_cells, header, regions}
+use Rattle.std.proofs.ByRecursion.{All-get_or, All-set}
+use Rattle.stored.specs.Stored.{Cell, empty, Bank, Sizes, Stored, free_bank, bank_at, with_banks, marked, with_cells}
+use Rattle.stored.specs.Numbers.{marks, bank_cells, header, regions, needed}
 use Rattle.stored.specs.Kept.{Well, Held}
-use Rattle.layout.specs.Layout.{Spans}
+use Rattle.layout.specs.Layout.{start_of, size_of, Spans}
 use Rattle.layout.specs.declared.region.Region.TheVariants.{Marks, Cells}
-use Rattle.layout.specs.declared.region.Span.{Span}
+use Rattle.std.specs.declared.ops.Range.{Range}
+use Rattle.layout.proofs.NewMemory.{free_numbers}
 use Rattle.layout.proofs.Places.{place, lent, written}
-use Rattle.banks.specs.Banks.{Sized}
+use Rattle.banks.specs.Banks.{Sized, CellsAt, numbers_of}
+use Rattle.stored.proofs.Regions.{has_its_size}
+use Rattle.banks.proofs.Bounds.{bank_fits}
+use Rattle.banks.proofs.Places.{bank_is, bank_put}
+use Rattle.banks.proofs.Alike.{how_many}
+use Rattle.banks.proofs.Within.{part_within, put_within}
 use Rattle.banks.proofs.Changed.{mark_keeps, cells_keep, mark_sized}
 
 -- a client with banks as many as before, each with a cell for each client
@@ -43,7 +49,7 @@ many_banks z xs t h = h.well.banks ∙ ap (λ (y : Sizes). 2 * y.waiting) h.size
 pub celled : (z : Sizes) (xs : List ℕ) (t : Stored) → Held z xs t → Sized z.clients t.banks
 celled z xs t h = subst (λ (y : Sizes). Sized y.clients t.banks) h.sized h.well.cells
 
-module _ (z : Sizes) (s : Span) (xs : List ℕ) (t : Stored) (h : Held z xs t) where
+module _ (z : Sizes) (s : Range ℕ) (xs : List ℕ) (t : Stored) (h : Held z xs t) where
   -- the marks as they are lent, and another one written there
   pub marks_lent : Spans z Marks s → take (s.end - s.start) (drop s.start xs) ≡ marks t.banks
   unfolding regions
@@ -57,15 +63,58 @@ module _ (z : Sizes) (s : Span) (xs : List ℕ) (t : Stored) (h : Held z xs t) w
       refl
       (ap (set (regions t) (place Marks)) e ∙ regions_marks bs t (mark_keeps t.banks p m))
 
-  -- the cells as they are lent, and others written there
-  pub cells_lent : Spans z Cells s → take (s.end - s.start) (drop s.start xs) ≡ bank_cells t.banks
-  unfolding regions
-  cells_lent spans = lent z Cells s xs t spans h
+-- the bank at a place, as it is lent, and other cells written there
+module _ (z : Sizes) (p : ℕ) (s : Range ℕ) (xs : List ℕ) (t : Stored) (h : Held z xs t) (at : CellsAt z p s) (few : p < 2 * z.waiting) where
+  all : Range ℕ
+  all = record { start = start_of z Cells; end = start_of z Cells + size_of z Cells }
 
-  pub cells_written : (p : ℕ) (cs : List Cell) (part : List ℕ) → Spans z Cells s → length cs ≡ t.sizes.clients → part ≡ bank_cells (with_cells t.banks p cs) → Held z (put_mid s.start (s.end - s.start) xs part) (with_banks (with_cells t.banks p cs) t)
-  cells_written p cs part spans many e =
+  all_lent : take (all.end - all.start) (drop all.start xs) ≡ bank_cells t.banks
+  unfolding regions all
+  all_lent = lent z Cells all xs t (record { starts = refl; ends = refl }) h
+
+  wide : size_of z Cells ≡ start_of z Cells + size_of z Cells - start_of z Cells
+  wide = omega arith
+
+  inside : p < length t.banks
+  inside = omega (arith, many_banks z xs t h)
+
+  fits : 18 * z.clients * p + 18 * z.clients ≤ start_of z Cells + size_of z Cells - start_of z Cells
+  fits = omega (arith, bank_fits z.clients p z.waiting few)
+
+  width : s.end - s.start ≡ 18 * z.clients
+  width = let e = at.ends in omega arith
+
+  pub bank_lent : take (s.end - s.start) (drop s.start xs) ≡ numbers_of (bank_at t.banks p).cells
+  unfolding all
+  bank_lent =
+      ap₂ (λ k a. take k (drop a xs)) width at.starts
+      ∙ part_within (start_of z Cells) (18 * z.clients * p) (18 * z.clients) (start_of z Cells + size_of z Cells - start_of z Cells) xs fits
+      ∙ ap (λ (ys : List ℕ). take (18 * z.clients) (drop (18 * z.clients * p) ys)) all_lent
+      ∙ bank_is z.clients p t.banks (celled z xs t h) inside
+
+  pub bank_written : (cs : List Cell) (part : List ℕ) → length cs ≡ t.sizes.clients → part ≡ numbers_of cs → Held z (put_mid s.start (s.end - s.start) xs part) (with_banks (with_cells t.banks p cs) t)
+  unfolding all
+  bank_written cs part many e =
       let bs : List Bank = with_cells t.banks p cs in
-      written z Cells s xs t spans h part (with_banks bs t)
+      let long : start_of z Cells + (start_of z Cells + size_of z Cells - start_of z Cells) ≤ length xs = omega (arith, ap length h.is, (has_its_size t h.well).0, ap needed h.sized) in
+      let there : put_mid s.start (s.end - s.start) xs part ≡ put_mid all.start (all.end - all.start) xs (put_mid (18 * z.clients * p) (18 * z.clients) (take (all.end - all.start) (drop all.start xs)) part) =
+      ap₂ (λ a k. put_mid a k xs part) at.starts width ∙ put_within (start_of z Cells) (18 * z.clients * p) (18 * z.clients) (start_of z Cells + size_of z Cells - start_of z Cells) xs fits part long in
+      let cells : put_mid (18 * z.clients * p) (18 * z.clients) (take (all.end - all.start) (drop all.start xs)) part ≡ bank_cells bs =
+      ap₂ (put_mid (18 * z.clients * p) (18 * z.clients)) all_lent e ∙ bank_put z.clients p t.banks (celled z xs t h) inside cs in
+      subst (λ (ys : List ℕ). Held z ys (with_banks bs t)) (sym there)
+      (written z Cells all xs t (record { starts = refl; ends = refl }) h _ (with_banks bs t)
       (well_banks bs t h.well (length-set t.banks p _) (All-set (λ (b : Bank). length b.cells ≡ t.sizes.clients) t.banks p _ many h.well.cells))
       refl
-      (ap (set (regions t) (place Cells)) e ∙ regions_cells bs t (cells_keep t.banks p cs))
+      (ap (set (regions t) (place Cells)) cells ∙ regions_cells bs t (cells_keep t.banks p cs)))
+
+  -- each bank has a cell for each client
+  pub bank_many : length (bank_at t.banks p).cells ≡ t.sizes.clients
+  bank_many = All-get_or (λ (b : Bank). length b.cells ≡ t.sizes.clients) t.banks p (free_bank 0) inside h.well.cells
+
+  pub bank_long : length (take (s.end - s.start) (drop s.start xs)) ≡ 18 * t.sizes.clients
+  bank_long = ap length bank_lent ∙ how_many (bank_at t.banks p).cells ∙ ap (λ k. 18 * k) bank_many
+
+  -- zeros there are empty cells
+  pub bank_zeros : (part : List ℕ) → part ≡ replicate (length (take (s.end - s.start) (drop s.start xs))) 0 → part ≡ numbers_of (replicate t.sizes.clients empty)
+  bank_zeros part zeros =
+      zeros ∙ ap (λ k. replicate k 0) bank_long ∙ sym (free_numbers t.sizes.clients)

@@ -1,57 +1,48 @@
--- The marks of banks: the first place of one, as they are gone through, and one that is written.
-use Rattle.std.proofs.Common.{◌≡◌, ℕ, suc, ◌+◌, ◌<◌, ◌≤◌, List, [], ◌∷◌, length, get_or, drop, set, sym, ap, ◌∙◌, arith}
-use Rattle.std.proofs.lemmas.List.{get_or-map, map-set, drop_more, drop_all, set_past}
-use Rattle.std.proofs.lemmas.Bool.{eq-eqb, ne_eqb}
+-- The marks of banks: the place of the first with a mark.
+use Rattle.std.proofs.Common.{◌≡◌, ℕ, suc, ◌+◌, ◌≤◌, Bool, true, false, not, cond, eqb, ltb, List, [], ◌∷◌, length, set, Some, None, Option, refl, sym, ap, ◌∙◌, inl, inr, arith}
+use Rattle.std.specs.Option.{MatchOption}
+use Rattle.std.specs.List.{position, position_or_len}
+use Rattle.std.proofs.lemmas.List.{map-set}
+use Rattle.std.proofs.lemmas.Bool.{cases_lt, lt-ltb, le-ltb}
 use Rattle.protocol.specs.Data.{pick}
-use Rattle.stored.specs.Stored.{Bank, free_bank, place_of, bank_at, marked}
+use Rattle.stored.specs.Stored.{Bank, place_of, bank_at, marked}
 use Rattle.stored.specs.Numbers.{marks}
 use Rattle.stored.proofs.Listed.{marks_length}
 
--- none of the first i banks has the mark
-abbrev pub Passed : ℕ → List ℕ → ℕ → Type 0
-Passed m xs i = (bs : List Bank) → xs ≡ marks bs → place_of m bs ≡ i + place_of m (drop i bs)
+one_more : (r : Bool) (i j : ℕ) → i ≡ j → cond (not r) (1 + i) 0 ≡ pick r 0 (suc j)
+unfolding pick
+one_more true i j e = refl
+one_more false i j e = omega arith
 
-pub none_passed : (m : ℕ) (xs : List ℕ) → Passed m xs 0
-none_passed m xs bs e = omega arith
+first_place : (m : ℕ) (bs : List Bank) → position_or_len (λ other. eqb other m) (marks bs) ≡ place_of m bs
+unfolding marks place_of
+first_place m [] = refl
+first_place m (b ∷ bs) = one_more (eqb b.mark m) _ _ (first_place m bs)
 
--- the i-th is looked at: it has the mark, or it is passed too
-module _ (m i : ℕ) (xs : List ℕ) (inside : i < length xs) (passed : Passed m xs i) (bs : List Bank) (is : xs ≡ marks bs) where
-  within : i < length bs
-  within = omega (arith, ap length is, marks_length bs)
+at_most : (r : Bool) (i n : ℕ) → i ≤ n → pick r 0 (suc i) ≤ suc n
+unfolding pick
+at_most true i n h = omega arith
+at_most false i n h = omega arith
 
-  here : get_or xs i 0 ≡ (bank_at bs i).mark
-  unfolding marks
-  here = ap (λ (t : List ℕ). get_or t i 0) is ∙ get_or-map (λ (b : Bank). b.mark) bs i (free_bank 0) 0 within
+place_most : (m : ℕ) (bs : List Bank) → place_of m bs ≤ length bs
+unfolding place_of pick
+place_most m [] = omega arith
+place_most m (b ∷ bs) = at_most (eqb b.mark m) _ _ (place_most m bs)
 
-  rest : drop i bs ≡ bank_at bs i ∷ drop (i + 1) bs
-  rest = drop_more bs i (free_bank 0) within
+either : (i n : ℕ) → i ≤ n → MatchOption (cond (ltb i n) (Some i) None) (i ≡ n) (λ k. k ≡ i)
+either i n most =
+    elim (cases_lt i n) [
+      | inl inside ↦ rw (lt-ltb i n inside) refl
+      | inr past ↦ rw (le-ltb i n past) (omega arith)
+    ]
 
-  pub found_here : get_or xs i 0 ≡ m → i ≡ place_of m bs
-  unfolding place_of pick
-  found_here e =
-      let first : place_of m (bank_at bs i ∷ drop (i + 1) bs) ≡ 0 = rw (eq-eqb (bank_at bs i).mark m (sym here ∙ e)) in
-      omega (arith, passed bs is, ap (place_of m) rest)
-
-  pub passed_more : (get_or xs i 0 ≡ m → ⊥) → place_of m bs ≡ i + 1 + place_of m (drop (i + 1) bs)
-  unfolding place_of pick
-  passed_more n =
-      let later : place_of m (bank_at bs i ∷ drop (i + 1) bs) ≡ suc (place_of m (drop (i + 1) bs)) = rw (ne_eqb (bank_at bs i).mark m (λ e. n (here ∙ e))) in
-      omega (arith, passed bs is, ap (place_of m) rest)
-
--- all are passed: none has it
-pub all_passed : (m : ℕ) (xs : List ℕ) → Passed m xs (length xs) → (bs : List Bank) → xs ≡ marks bs → length xs ≡ place_of m bs
-unfolding place_of
-all_passed m xs passed bs is =
-    let none : drop (length xs) bs ≡ [] = drop_all (length xs) bs (omega (arith, ap length is, marks_length bs)) in
-    let nowhere : place_of m (drop (length xs) bs) ≡ 0 = ap (place_of m) none in
-    omega (arith, passed bs is)
+-- found at a place among the banks, or nowhere
+pub found : (m : ℕ) (xs : List ℕ) (bs : List Bank) (r : Option ℕ) → xs ≡ marks bs → r ≡ position (λ other. eqb other m) xs → MatchOption r (place_of m bs ≡ length bs) (λ k. k ≡ place_of m bs)
+found m xs bs r is e =
+    rw (e, is, first_place m bs, marks_length bs) (either (place_of m bs) (length bs) (place_most m bs))
 
 -- a mark written at a place is that of the bank there
 pub marks_set : (xs : List ℕ) (bs : List Bank) (i m : ℕ) → xs ≡ marks bs → set xs i m ≡ marks (marked bs i m)
 unfolding marks
 marks_set xs bs i m e =
     ap (λ (t : List ℕ). set t i m) e ∙ sym (map-set (λ (b : Bank). b.mark) bs i (record { mark = m; cells = (bank_at bs i).cells }))
-
--- and nothing where there is no bank
-pub marks_kept : (xs : List ℕ) (bs : List Bank) (i m : ℕ) → length xs ≤ i → xs ≡ marks bs → xs ≡ marks (marked bs i m)
-marks_kept xs bs i m h e = sym (set_past xs i m h) ∙ marks_set xs bs i m e

@@ -2,8 +2,7 @@
 // The contracts say what holds where memory holds a client; nothing goes out of bounds for any numbers whatever.
 #![tactic(auto)]
 
-mod cells;
-mod marks;
 mod memory;
+mod searches;
 
 pub use memory::{bank_with, clear, count_alike, free, is_empty, put, take};

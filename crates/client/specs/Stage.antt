@@ -1,9 +1,12 @@
 -- What the client of this stage promises: it can't do any event yet, and answers as the definitions say of such a client. Assumes nothing.
-use Rattle.std.specs.Prelude.{◌≡◌, ℕ, zero, suc, Bool, false, List, [], ◌∷◌, length, Some, None, Option, Result, MatchResult}
-use Rattle.protocol.specs.Data.{Data, Past}
+use Rattle.std.specs.Prelude.{◌≡◌, ℕ, Bool, false, List, length, slice_get, Option, Result, MatchResult}
+use Rattle.std.specs.Option.{option_map}
+use Rattle.protocol.specs.Data.{Data}
 use Rattle.protocol.specs.Client.{Event, Limits, state, answer, lets_now}
 use Rattle.wire.specs.Fixed.{Written, Unwritten}
+use Rattle.wire.specs.Meaning.{entry_of}
 use Rattle.wire.specs.declared.fixed.Short.{Short}
+use Rattle.wire.specs.declared.values.Entry.{Entry}
 use Rattle.events.specs.Layout.{parse, answer_bytes}
 
 -- the events that it can do: none
@@ -23,12 +26,6 @@ Replies l event before after r =
 abbrev pub Lets : Limits → ℕ → Data → Bool → Type 0
 Lets l k d r = (es : List Event) → r ≡ lets_now (state l es) k d
 
--- the source and target of the entry at a place of the past, the largest target first
-unfoldable pub entry_at : List Past → ℕ → Option (ℕ × ℕ)
-entry_at [] i = None
-entry_at (p ∷ ps) zero = Some (p.from, p.to)
-entry_at (p ∷ ps) (suc i) = entry_at ps i
-
--- after any events whatever, r is the entry at a place of the past
-abbrev pub Remembers : Limits → ℕ → Option (ℕ × ℕ) → Type 0
-Remembers l i r = (es : List Event) → r ≡ entry_at (state l es).past i
+-- after any events whatever, r is the entry at a place of the past, the largest target first
+abbrev pub Remembers : Limits → ℕ → Option Entry → Type 0
+Remembers l i r = (es : List Event) → option_map entry_of r ≡ slice_get (state l es).past i

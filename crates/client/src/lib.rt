@@ -9,7 +9,7 @@ ghost use Rattle.client.specs.Stage.{none, Replies, Lets, Remembers};
 
 use events::{read_event, write_refused};
 use protocol::{Limits, LimitsError, Refusal};
-use wire::{Data, Short};
+use wire::{Data, Entry, Short};
 
 // A client, by the limits that it was opened with.
 #[derive(Clone, Copy)]
@@ -31,8 +31,8 @@ impl Client {
         ensures { Replies (limits_of none self.now.limits) event.now answer.old answer.new result }
     {
         match read_event(event) {
-            Ok(_event) => write_refused(answer, Refusal::NotServed.number(), 0),
-            Err(garbled) => write_refused(answer, Refusal::NoEvent.number(), garbled.place),
+            Ok(_) => write_refused(answer, u8::from(Refusal::NotServed), 0),
+            Err(garbled) => write_refused(answer, u8::from(Refusal::NoEvent), garbled.place),
         }
     }
 
@@ -43,8 +43,8 @@ impl Client {
         false
     }
 
-    // The source and target of the entry at a place of the past, the largest target first.
-    pub fn past(&self, _place: usize) -> Option<(u64, u64)>
+    // The entry at a place of the past, the largest target first.
+    pub fn past(&self, _place: usize) -> Option<Entry>
         ensures { Remembers (limits_of none self.now.limits) _place result }
     {
         None

@@ -1,6 +1,5 @@
 -- After any events the front of a slice holds the stored client, and what a call does with it is what the keeper does.
-use Rattle.std.proofs.Common.{◌≡◌, ℕ, ◌-◌, ◌<◌, true, List, ◌∷◌, ◌++◌, length, take, drop, Ok, Err, sym, refl, ap, ◌∙◌, subst, ap₂, arith, take_at, drop_at}
-use borrow.Rule.Slice.PartMut.{put_mid}
+use Rattle.std.proofs.Common.{◌≡◌, ℕ, ◌<◌, true, List, ◌∷◌, ◌++◌, length, take, drop, Ok, Err, sym, refl, ap, ◌∙◌, subst, ap₂, take_at, drop_at}
 use Rattle.std.proofs.lemmas.Bool.{and_from}
 use Rattle.protocol.specs.Data.{Data}
 use Rattle.protocol.specs.Client.{Event, Answer, Limits, state, answer, lets_now}
@@ -72,14 +71,17 @@ module _ (l : Limits) (es : List Event) (xs : List ℕ) (a : After l es xs) wher
     size_is : size ≡ length m
     size_is = counted ∙ ap needed same ∙ sym long
 
-    lent : take (size - 0) (drop 0 xs) ≡ m
+    lent : take size xs ≡ m
     unfolding m
     lent =
-        let k : size - 0 ≡ length m = omega (arith, size_is) in
-        ap₂ take k a.front ∙ take_at m (drop (length m) xs) (length m) refl
+        ap₂ take size_is a.front ∙ take_at m (drop (length m) xs) (length m) refl
 
-    pub held_part : Held z (take (size - 0) (drop 0 xs)) client
-    held_part = subst (λ (y : Sizes). Held y (take (size - 0) (drop 0 xs)) client) (sym same) (subst (λ (ys : List ℕ). Held (sizes_of l) ys client) (sym lent) held)
+    pub held_part : Held z (take size xs) client
+    held_part = subst (λ (y : Sizes). Held y (take size xs) client) (sym same) (subst (λ (ys : List ℕ). Held (sizes_of l) ys client) (sym lent) held)
+
+    -- the same, as it is lent to be read
+    pub held_view : (ys : List ℕ) → ys ≡ take size xs → Held z ys client
+    held_view ys is = subst (λ (vs : List ℕ). Held z vs client) (sym is) held_part
 
     -- an event's bytes, as a call is given them
     module _ (event out out' part : List ℕ) (small : AllBytes event) (short : length event < 18446744073709551616) where
@@ -99,10 +101,10 @@ module _ (l : Limits) (es : List Event) (xs : List ℕ) (a : After l es xs) wher
       unfolding memory m
       next = ap (λ (t : Stored). encode (step stage t (parse event))) (sym read)
 
-      rest_is : (ys : List ℕ) → put_mid 0 (size - 0) xs ys ≡ ys ++ drop (length m) xs
-      rest_is ys = let k : size - 0 ≡ length m = omega (arith, size_is) in ap (λ n. ys ++ drop n xs) k
+      rest_is : (ys : List ℕ) → (ys ++ drop size xs) ≡ ys ++ drop (length m) xs
+      rest_is ys = ap (λ n. ys ++ drop n xs) size_is
 
-      after_is : (ys : List ℕ) → ys ≡ kept_memory l (parse event ∷ es) → put_mid 0 (size - 0) xs ys ≡ kept_memory l (parse event ∷ es) ++ drop (length m) xs
+      after_is : (ys : List ℕ) → ys ≡ kept_memory l (parse event ∷ es) → (ys ++ drop size xs) ≡ kept_memory l (parse event ∷ es) ++ drop (length m) xs
       after_is ys is = rest_is ys ∙ ap (λ v. v ++ drop (length m) xs) is
 
       again : (ys : List ℕ) → ys ≡ kept_memory l (parse event ∷ es) ++ drop (length m) xs → After l (parse event ∷ es) ys
@@ -116,22 +118,21 @@ module _ (l : Limits) (es : List Event) (xs : List ℕ) (a : After l es xs) wher
           }
 
       -- it was taken
-      pub took_it : (n : ℕ) → Served z stage (parse event) (take (size - 0) (drop 0 xs)) part out out' (Ok n) → Took l es event xs (put_mid 0 (size - 0) xs part) out out' (Ok n)
+      pub took_it : (n : ℕ) → Served z stage (parse event) (take size xs) part out out' (Ok n) → Took l es event xs ((part ++ drop size xs)) out out' (Ok n)
       unfolding m
       took_it n served =
           let s = served client held_part ready in
           let after = after_is part (s.leaves.is ∙ next) in (
             subst (λ (x : Answer). Written (length (answer_bytes x)) (answer_bytes x) out out' n) replies s.says,
             after,
-            again (put_mid 0 (size - 0) xs part) after,
+            again (part ++ drop size xs) after,
           )
 
       -- its answer has no room
-      pub no_room : (v : Short) → Served z stage (parse event) (take (size - 0) (drop 0 xs)) part out out' (Err v) → Took l es event xs (put_mid 0 (size - 0) xs part) out out' (Err ShortAnswer)
+      pub no_room : (v : Short) → Served z stage (parse event) (take size xs) part out out' (Err v) → Took l es event xs ((part ++ drop size xs)) out out' (Err ShortAnswer)
       unfolding m
       no_room v served =
-          let s = served client held_part ready in
-          let k : size - 0 ≡ length m = omega (arith, size_is) in (
+          let s = served client held_part ready in (
             subst (λ (x : Answer). Unwritten (length (answer_bytes x)) out out') replies s.says,
             rest_is part ∙ ap (λ ys. ys ++ drop (length m) xs) (s.leaves ∙ lent) ∙ sym a.front,
           )

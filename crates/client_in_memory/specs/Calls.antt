@@ -8,6 +8,7 @@ use Rattle.protocol.specs.Promise.{all_readable, GoodLimits, thin}
 use Rattle.protocol.specs.Meaning.{limits_of}
 use Rattle.protocol.specs.declared.sizes.Limits as declared
 use Rattle.wire.specs.Fixed.{Written, Unwritten}
+use Rattle.wire.specs.declared.values.Entry.{Entry}
 use Rattle.events.specs.Layout.{parse, answer_bytes}
 use Rattle.layout.specs.Layout.{plausible, Unopened}
 use Rattle.layout.specs.declared.opening.OpenError.{OpenError}
@@ -65,6 +66,6 @@ abbrev pub Lets : List ℕ → ℕ → Data → Result Bool CallError → Type 0
 Lets xs k d r = (l : Limits) (es : List Event) → After l es xs → OfAClient (λ b. b ≡ lets_now (state l es) k d) r
 
 -- the entry at a place of its past
-abbrev pub Remembers : List ℕ → ℕ → Result (Option (ℕ × ℕ)) CallError → Type 0
+abbrev pub Remembers : List ℕ → ℕ → Result (Option Entry) CallError → Type 0
 Remembers xs i r =
     (l : Limits) (es : List Event) → After l es xs → OfAClient (λ o. entry_found o ≡ take 1 (drop i (state l es).past)) r

@@ -8,29 +8,25 @@ ghost use Rattle.keeper.specs.Keeper.{keeper};
 ghost use Rattle.client_in_memory.specs.Calls.{stage, Opens, Handled, Lets, Remembers};
 
 use crate::errors::CallError;
-use layout::{Layout, OpenError};
+use layout::{Layout, OpenError, View};
 use protocol::Limits;
 use steps::{allows, serve};
-use store::past_at;
-use wire::Data;
+use store::{Listed, Past};
+use wire::{Data, Entry};
 
 // How many numbers the memory of a client with these limits has.
 pub fn needed(limits: &Limits) -> usize
     ensures { result ≡ numbers_needed (limit_sizes limits.now) }
 {
-    let clients = limits.clients as usize;
-    let waiting = limits.waiting as usize;
-    13 + 2 * limits.kept as usize + 42 * waiting + 36 * (clients * waiting)
+    layout::needed(limits)
 }
 
 // Makes the memory of a new client at the front of the slice.
 pub fn open(memory: &mut [u64], limits: &Limits) -> Result<(), OpenError>
     ensures { Opens limits.now memory.old memory.new result }
 {
-    match layout::open(memory, limits) {
-        Ok(_) => Ok(()),
-        Err(error) => Err(error),
-    }
+    layout::open(memory, limits)?;
+    Ok(())
 }
 
 // Takes an event's bytes, does what the client does with it, writes the answer's bytes at the front of `answer`, and says how many they are.
@@ -39,13 +35,9 @@ pub fn handle(memory: &mut [u64], event: &[u8], answer: &mut [u8]) -> Result<usi
     ensures right { Right stage (keeper stage) }
     ensures safe { NeverPunished stage (keeper stage) }
 {
-    let Some(layout) = Layout::of(memory) else {
-        return Err(CallError::NotAClient);
-    };
+    let layout = Layout::of(memory).ok_or(CallError::NotAClient)?;
     let size = layout.size();
-    let Ok(n) = serve(&mut memory[0..size], &layout, event, answer) else {
-        return Err(CallError::ShortAnswer);
-    };
+    let n = serve(&mut memory[..size], &layout, event, answer)?;
     Ok(n)
 }
 
@@ -53,20 +45,14 @@ pub fn handle(memory: &mut [u64], event: &[u8], answer: &mut [u8]) -> Result<usi
 pub fn may_decide(memory: &[u64], slot: u64, data: &Data) -> Result<bool, CallError>
     ensures { Lets memory.now slot (data_of «data».now) result }
 {
-    let Some(layout) = Layout::of(memory) else {
-        return Err(CallError::NotAClient);
-    };
-    let size = layout.size();
-    Ok(allows(&memory[0..size], &layout, slot, data))
+    let view = View::of(memory).ok_or(CallError::NotAClient)?;
+    Ok(allows(view, slot, data))
 }
 
-// The source and target of the entry at a place of the past, the largest target first, if there are so many.
-pub fn past(memory: &[u64], place: usize) -> Result<Option<(u64, u64)>, CallError>
+// The entry at a place of the past, the largest target first, if there are so many.
+pub fn past(memory: &[u64], place: usize) -> Result<Option<Entry>, CallError>
     ensures { Remembers memory.now place result }
 {
-    let Some(layout) = Layout::of(memory) else {
-        return Err(CallError::NotAClient);
-    };
-    let size = layout.size();
-    Ok(past_at(&memory[0..size], &layout, place))
+    let view = View::of(memory).ok_or(CallError::NotAClient)?;
+    Ok(Past::at(view, place))
 }

@@ -9,7 +9,7 @@ use crate::calls;
 use crate::errors::CallError;
 use layout::OpenError;
 use protocol::Limits;
-use wire::Data;
+use wire::{Data, Entry};
 
 // A client over the memory that was lent to open it.
 #[derive(Drop)]
@@ -22,10 +22,8 @@ impl<'a> Session<'a> {
     pub fn open(memory: &'a mut [u64], limits: &Limits) -> Result<Session<'a>, OpenError>
         ensures { MatchResult result (λ s. After (limits_of stage limits.now) [] s.memory.now) (λ e. Unopened limits.now e) }
     {
-        match calls::open(memory, limits) {
-            Ok(()) => Ok(Session { memory }),
-            Err(error) => Err(error),
-        }
+        calls::open(memory, limits)?;
+        Ok(Session { memory })
     }
 
     // Takes an event's bytes, does what the client does with it, and writes the answer's bytes at the front of `answer`.
@@ -43,8 +41,8 @@ impl<'a> Session<'a> {
         calls::may_decide(self.memory, slot, data)
     }
 
-    // The source and target of the entry at a place of the past, the largest target first, if there are so many.
-    pub fn past(&self, place: usize) -> Result<Option<(u64, u64)>, CallError>
+    // The entry at a place of the past, the largest target first, if there are so many.
+    pub fn past(&self, place: usize) -> Result<Option<Entry>, CallError>
         ensures { Remembers self.now.memory.now place result }
     {
         calls::past(self.memory, place)

@@ -1,7 +1,7 @@
 // Vectors: each byte stands where the layout of events and answers has it, the low byte of a number first.
 use events::{
-    Answer, Event, NotWritten, Row, read_answer, read_event, write_block, write_done, write_event,
-    write_refused,
+    Answer, Deeds, Event, NotWritten, Row, read_answer, read_event, write_block, write_done,
+    write_event, write_refused,
 };
 use std::process::Abort;
 use std::test::Fail;
@@ -262,10 +262,13 @@ fn refusals(rt: HostRuntime) -> Result<(), Fail> {
 #[test]
 fn done_with_each_row(rt: HostRuntime) -> Result<(), Fail> {
     let mut out = [9u8; 311];
-    assert_eq!(rt;
-        write_done(&mut out, &[share()], &[data()], &[duty()], &[7, 258])?,
-        310
-    );
+    let deeds = Deeds {
+        sent: &[share()],
+        handed_in: &[data()],
+        begun: &[duty()],
+        ended: &[7, 258],
+    };
+    assert_eq!(rt; write_done(&mut out, &deeds)?, 310);
     assert_eq!(rt;
         [out[0], out[1], out[139], out[268], out[293], out[310]],
         [1, 1, 1, 1, 2, 9]
@@ -280,24 +283,28 @@ fn done_with_each_row(rt: HostRuntime) -> Result<(), Fail> {
 fn reads_done(rt: &impl Abort, out: &[u8; 311]) -> Result<(), Fail> {
     assert!(rt; read_answer(&out[0..309]).is_none());
     assert!(rt; read_answer(&out[0..311]).is_none());
-    let Some(Answer::Done(sent, handed_in, begun, ended)) = read_answer(&out[0..310]) else {
+    let Some(Answer::Done(rows)) = read_answer(&out[0..310]) else {
         return Err(Fail::new("an answer"));
     };
-    assert_eq!(rt; sent.get(0), Some(share()));
-    assert_eq!(rt; handed_in.get(0), Some(data()));
-    assert_eq!(rt; begun.get(0), Some(duty()));
-    assert_eq!(rt; ended.len(), 2);
-    assert_eq!(rt; ended.get(1), Some(258u64));
+    assert_eq!(rt; rows.sent.get(0), Some(share()));
+    assert_eq!(rt; rows.handed_in.get(0), Some(data()));
+    assert_eq!(rt; rows.begun.get(0), Some(duty()));
+    assert_eq!(rt; rows.ended.len(), 2);
+    assert_eq!(rt; rows.ended.get(1), Some(258u64));
     Ok(())
 }
 
 #[test]
 fn done_is_refused(rt: HostRuntime) -> Result<(), Fail> {
     let mut out = [9u8; 4];
-    let Err(NotWritten::Short) = write_done(&mut out, &[], &[], &[], &[]) else {
+    let Err(NotWritten::Short) = write_done(&mut out, &Deeds::default()) else {
         return Err(Fail::new("too short"));
     };
-    let Err(NotWritten::BadRow) = write_done(&mut out, &[], &[], &[], &[0; 256]) else {
+    let slots = Deeds {
+        ended: &[0; 256],
+        ..Deeds::default()
+    };
+    let Err(NotWritten::BadRow) = write_done(&mut out, &slots) else {
         return Err(Fail::new("too many slots"));
     };
     assert_eq!(rt; out, [9, 9, 9, 9]);

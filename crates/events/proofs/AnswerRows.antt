@@ -1,7 +1,6 @@
 -- The four rows of an answer, one behind the other: what they are read as where all are there, and that they are no answer where one is cut short or bytes are left.
-use Rattle.std.proofs.Common.{◌≡◌, ℕ, ◌+◌, ◌*◌, ◌<◌, ◌≤◌, true, false, eqb, List, [], ◌++◌, length, Some, None, ◌∙◌, arith, length-append, drop_at}
-use Rattle.std.proofs.lemmas.List.{nil_from_length}
-use Rattle.std.proofs.lemmas.Bool.{le-leb, ne_eqb}
+use Rattle.std.proofs.Common.{◌≡◌, ℕ, ◌+◌, ◌*◌, true, false, eqb, List, [], ◌++◌, length, Some, None, ◌∙◌, arith, length-append, drop_at}
+use Rattle.std.proofs.lemmas.Bool.{le-leb}
 use Rattle.protocol.specs.Data.{pick}
 use Rattle.protocol.specs.Client.{does}
 use Rattle.wire.specs.Bytes.{data_from, duty_from, share_from}
@@ -34,7 +33,7 @@ module _ {size : ℕ} {bs : List ℕ} {n : ℕ} {row rest : List ℕ} (s : InFro
   unfolding row_entries
   held c = rw s.whole (entries_front c n row rest (omega (arith, s.long)))
 
--- no answer: a row is cut short, or bytes are left behind the last; and else the answer with just these rows
+-- no answer: a row is cut short, or bytes are left behind the last, and else the answer with just these rows
 pub none_at_first : (bs : List ℕ) → row_there 137 bs ≡ false → parse_done bs ≡ None
 unfolding parse_done pick
 none_at_first bs h = rw h
@@ -55,15 +54,9 @@ module _ {bs ds : List ℕ} {n : ℕ} {r : List ℕ} (s : InFront 137 bs n r ds)
       none_at_fourth h = rw (behind s, behind d, behind y, there s, there d, there y, h)
 
       module _ {rest : List ℕ} {j : ℕ} {o : List ℕ} (k : InFront 8 ks j o rest) where
-        pub none_behind : 0 < length rest → parse_done bs ≡ None
-        unfolding parse_done pick
-        none_behind h =
-            let left : eqb (length rest) 0 ≡ false = ne_eqb (length rest) 0 (omega arith) in
-            rw (behind s, behind d, behind y, behind k, there s, there d, there y, there k, left)
-
-        pub four_rows : length rest ≤ 0 →
-            parse_done bs ≡ Some (does (entries 137 share_from n r) (entries 128 data_from m q) (entries 24 duty_from l p) (entries 8 number_from j o))
-        four_rows h =
-            let none : rest ≡ [] = nil_from_length rest (omega arith) in
-            done_is bs ds ys ks (behind s) (behind d) (behind y) (behind k ∙ none) (there s) (there d) (there y) (there k)
-            ∙ rw (held s share_coding, held d data_coding, held y duty_coding, held k eight_coding)
+        pub four_rows : parse_done bs
+            ≡ pick (eqb (length rest) 0) (Some (does (entries 137 share_from n r) (entries 128 data_from m q) (entries 24 duty_from l p) (entries 8 number_from j o))) None
+        unfolding parse_done
+        four_rows =
+            rw
+            (behind s, behind d, behind y, behind k, there s, there d, there y, there k, held s share_coding, held d data_coding, held y duty_coding, held k eight_coding)

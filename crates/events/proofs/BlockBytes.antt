@@ -1,12 +1,10 @@
--- The bytes of a block, of values as the code holds them and of a row in lent bytes; and how many bytes the events have that hold data.
-use Rattle.std.proofs.Common.{◌≡◌, ℕ, suc, ◌+◌, ◌*◌, ◌≤◌, List, ◌∷◌, length, take, ap, ◌∙◌, ap₂, arith}
-use Rattle.protocol.specs.Data as defined
-use Rattle.protocol.specs.Client.{decided, block}
+-- The bytes of a block, of values as the code holds them and of a row in lent bytes.
+use Rattle.std.proofs.Common.{◌≡◌, ℕ, ◌+◌, ◌*◌, ◌≤◌, List, ◌∷◌, length, take, ap, ◌∙◌, ap₂, arith}
+use Rattle.protocol.specs.Client.{block}
 use Rattle.wire.specs.Bytes.{AllBytes, data_bytes, data_from}
 use Rattle.wire.specs.Meaning.{data_of}
 use Rattle.wire.specs.declared.values.Data.{Data}
-use Rattle.wire.specs.CodingLemmas.{both}
-use Rattle.wire.specs.Laws.{eight_coding, data_coding}
+use Rattle.wire.specs.Laws.{data_coding}
 use Rattle.events.specs.Layout.{row_bytes, entries, event_bytes}
 use Rattle.events.specs.Writing.{block_bytes}
 use Rattle.events.proofs.Done.{row_map, data_coded, data_row}
@@ -23,7 +21,3 @@ block_long ds = ap length (block_is ds) ∙ omega (arith, data_row ds)
 pub lent_is : (n : ℕ) (bs : List ℕ) → AllBytes bs → 128 * n ≤ length bs → event_bytes (block (entries 128 data_from n bs)) ≡ 3 ∷ (n ∷ take (128 * n) bs)
 unfolding event_bytes
 lent_is n bs h l = ap₂ (λ (m : ℕ) (xs : List ℕ). 3 ∷ (m ∷ xs)) (length_entries 128 data_from n bs) (entries_again data_coding n bs h l)
-
-pub decided_long : (k : ℕ) (d : defined.Data) → length (event_bytes (decided k d)) ≡ 137
-unfolding event_bytes
-decided_long k d = ap suc ((both eight_coding data_coding).long (k, d))

@@ -37,4 +37,4 @@ pub answer_without : (r : Option Answer) (bs : List ℕ) → answer_read r ≡ p
 unfolding answer_read answer_of
 answer_without None bs p = tt
 answer_without (Some (Refused j k)) bs p = tt
-answer_without (Some (Done ss ds ys ks)) bs p = absurd (not_done bs _ _ _ _ p)
+answer_without (Some (Done r)) bs p = absurd (not_done bs _ _ _ _ p)

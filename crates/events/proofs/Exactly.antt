@@ -1,7 +1,7 @@
 -- Bytes of which just so many are asked for: too few, too many, and enough.
-use Rattle.std.proofs.Common.{◌≡◌, ℕ, ◌+◌, ◌-◌, ◌<◌, ◌≤◌, ltb, List, length, take, drop, sym, ap, ◌∙◌, ⊎_elim, arith, length-drop}
+use Rattle.std.proofs.Common.{◌≡◌, ℕ, ◌+◌, ◌-◌, ◌<◌, ◌≤◌, ltb, List, length, take, drop, sym, ap, ◌∙◌, arith, length-drop}
 use Rattle.std.proofs.lemmas.List.{take_rest}
-use Rattle.std.proofs.lemmas.Bool.{le-ltb, lt-ltb, cases_order}
+use Rattle.std.proofs.lemmas.Bool.{le-ltb, lt-ltb}
 use Rattle.protocol.specs.Client.{Event, garbled}
 use Rattle.events.specs.Layout.{exactly}
 use Rattle.events.proofs.Picked.{pick_true, pick_false}
@@ -35,12 +35,3 @@ module _ (at k : ℕ) (bs : List ℕ) (e : Event) (inside : at ≤ length bs) wh
       let more : k ≤ length (drop at bs) = rw (take_rest bs at) at l in
       let rest : length (drop at bs) ≡ length bs - at = length-drop at bs in
       exactly_right at k (drop at bs) e (omega arith)
-
--- some bytes further on
-pub exactly_later : (b m k : ℕ) (bs : List ℕ) (e : Event) → m ≤ length bs → exactly b (m + k) bs e ≡ exactly (b + m) k (drop m bs) e
-exactly_later b m k bs e l =
-    let rest : length (drop m bs) ≡ length bs - m = length-drop m bs in
-    ⊎_elim (λ same. exactly_right b (m + k) bs e same ∙ sym (exactly_right (b + m) k (drop m bs) e (omega arith)))
-    (⊎_elim (λ less. exactly_short b (m + k) bs e less ∙ ap garbled (omega arith) ∙ sym (exactly_short (b + m) k (drop m bs) e (omega arith)))
-    (λ more. exactly_long b (m + k) bs e more ∙ ap garbled (omega arith) ∙ sym (exactly_long (b + m) k (drop m bs) e (omega arith))))
-    (cases_order (length bs) (m + k))

@@ -1,7 +1,6 @@
 -- Bytes that are written one behind the other into a slice: what stands in it after each.
-use Rattle.std.proofs.Common.{◌≡◌, ℕ, ◌+◌, ◌-◌, ◌<◌, ◌≤◌, List, [], ◌∷◌, ◌++◌, length, take, drop, set, sym, refl, ap, ◌∙◌, append_assoc, arith, length-append, length-drop, drop-drop, take_at, drop_at}
+use Rattle.std.proofs.Common.{◌≡◌, ℕ, ◌+◌, ◌<◌, ◌≤◌, List, [], ◌∷◌, ◌++◌, length, take, drop, set, sym, refl, ap, ◌∙◌, append_assoc, arith, length-append, length-drop, drop-drop, take_at, drop_at}
 use borrow.Rule.Slice.PartMut.{put_mid}
-use Rattle.std.proofs.lemmas.List.{take_rest, drop_all, append-nil}
 use Rattle.wire.specs.Fixed.{Written, placed}
 
 -- a slice that held xs has the bytes `front` at its front, and from the place on what it held
@@ -53,29 +52,6 @@ module _ {xs front cur : List ℕ} {at : ℕ} (f : Laid xs front at cur) where
         long = length-append front new ∙ omega (arith, f.long, l);
         room = room;
       }
-
-  -- a part from the place on into which more was written
-  module _ {new part : List ℕ} {k n : ℕ} (w : Written k new (take (length cur - at) (drop at cur)) part n) where
-    pub room_next : at + n ≤ length xs
-    room_next =
-        let room : k ≤ length (drop at xs) = rw (take_rest cur at ∙ behind) at w.room in
-        omega (arith, f.room, w.counted, length-drop at xs)
-
-    pub lay_next : length new ≡ k → Laid xs (front ++ new) (at + n) (put_mid at (length cur - at) cur part)
-    lay_next l =
-        record {
-          holds = rw (in_front, none, append-nil, filled) (sym (append_assoc front new (drop (at + n) xs)));
-          long = length-append front new ∙ omega (arith, f.long, l, w.counted);
-          room = room_next;
-        }
-      where
-        none : drop (length cur - at) (drop at cur) ≡ []
-        none = drop_all (length cur - at) (drop at cur) (simp length-drop (omega arith))
-
-        filled : part ≡ new ++ drop (at + n) xs
-        filled =
-            w.holds ∙ ap (λ (ys : List ℕ). new ++ drop k ys) (take_rest cur at ∙ behind) ∙ ap (λ (ys : List ℕ). new ++ ys) (drop-drop k at xs)
-            ∙ ap (λ m. new ++ drop (at + m) xs) (sym w.counted)
 
 pub laid_at : {xs front cur : List ℕ} {at : ℕ} (b : ℕ) → Laid xs front at cur → at ≡ b → Laid xs front b cur
 laid_at b f e = rw e at f

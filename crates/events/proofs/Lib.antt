@@ -10,8 +10,8 @@ pub mod EventLaws
 pub mod EventPlace
 pub mod ExactRows
 pub mod Exactly
+pub mod HandedOn
 pub mod Laid
 pub mod LaidRows
 pub mod Picked
-pub mod Refusing
 pub mod RowEntries

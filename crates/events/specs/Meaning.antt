@@ -34,4 +34,4 @@ event_of Resend = resend
 
 unfoldable pub answer_of : Answer → client.Answer
 answer_of (Refused j k) = refused j k
-answer_of (Done ss ds ys ks) = does (row_shares ss) (row_data ds) (row_duties ys) (row_slots ks)
+answer_of (Done r) = does (row_shares r.sent) (row_data r.handed_in) (row_duties r.begun) (row_slots r.ended)

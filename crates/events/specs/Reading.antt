@@ -33,7 +33,7 @@ ExactEvent Resend = Unit {0}
 
 abbrev pub ExactAnswer : Answer → Type 0
 ExactAnswer (Refused j k) = Unit {0}
-ExactAnswer (Done ss ds ys ks) = ExactRow 137 ss × ExactRow 128 ds × ExactRow 24 ys × ExactRow 8 ks
+ExactAnswer (Done r) = ExactRow 137 r.sent × ExactRow 128 r.handed_in × ExactRow 24 r.begun × ExactRow 8 r.ended
 
 -- what was read, if anything, has such rows
 abbrev pub EventExact : Result Event Garbled → Type 0

@@ -1,5 +1,5 @@
 -- What an entry of a row is. Assumes nothing: these are definitions and a statement.
-use Rattle.std.specs.Prelude.{◌≡◌, ℕ, ◌+◌, ◌*◌, ◌<◌, ◌≤◌, ◌⊎◌, List, ◌∷◌, ◌++◌, length, drop, Option, MatchOption, slice_index_or}
+use Rattle.std.specs.Prelude.{◌≡◌, ℕ, ◌+◌, ◌*◌, ◌<◌, ◌≤◌, ◌⊎◌, List, ◌∷◌, ◌++◌, length, drop, Option, MatchOption, slice_index_or, nat_le, Bool}
 use Rattle.wire.specs.Bytes.{share_from, data_from, duty_from}
 use Rattle.events.specs.Layout.{entries, number_from}
 
@@ -7,6 +7,10 @@ use Rattle.events.specs.Layout.{entries, number_from}
 abbrev pub EntryAt : {A : Type 0} → ℕ → (List ℕ → A → Type 0) → ℕ → List ℕ → ℕ → Option A → Type 0
 EntryAt size reads count bs i r =
     MatchOption r ((count ≤ i) ⊎ (length bs < size * i + size)) (λ x. (i < count) × (size * i + size ≤ length bs) × reads (drop (size * i) bs) x)
+
+-- so few entries that a byte counts them
+abbrev pub few : {A : Type 0} → List A → Bool
+few xs = nat_le (length xs) 255
 
 -- bytes that begin with a row: its count, its entries of a size, and what stands behind them
 pub record InFront (size : ℕ) (bs : List ℕ) (count : ℕ) (row rest : List ℕ) : Type 0 where

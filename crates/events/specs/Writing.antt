@@ -1,5 +1,5 @@
 -- What is written, and when writing is refused. Assumes nothing: these are definitions.
-use Rattle.std.specs.Prelude.{◌≡◌, ℕ, ◌+◌, ◌*◌, ◌≤◌, Bool, true, false, ◌&&◌, List, map, length, Ok, Err, Result, nat_le}
+use Rattle.std.specs.Prelude.{◌≡◌, ℕ, ◌+◌, ◌*◌, Bool, true, false, ◌&&◌, List, map, length, Ok, Err, Result, nat_le}
 use Rattle.protocol.specs.Client.{block, does}
 use Rattle.wire.specs.Fixed.{Written, Unwritten}
 use Rattle.wire.specs.Meaning.{data_of, duty_of, share_of}
@@ -7,8 +7,10 @@ use Rattle.wire.specs.declared.values.Data.{Data}
 use Rattle.wire.specs.declared.values.Duty.{Duty}
 use Rattle.wire.specs.declared.values.Share.{Share}
 use Rattle.events.specs.Layout.{event_bytes, answer_bytes}
+use Rattle.events.specs.Rows.{few}
 use Rattle.events.specs.declared.event.Event.{Event}
 use Rattle.events.specs.declared.event.Event.TheVariants.{OnDuty, Decided, ShareCame, Block, Resend}
+use Rattle.events.specs.declared.answer.Deeds.{Deeds}
 use Rattle.events.specs.declared.not_written.NotWritten.{NotWritten}
 use Rattle.events.specs.declared.not_written.NotWritten.TheVariants.{Short, BadRow}
 
@@ -18,23 +20,21 @@ Outcome fine bs before after (Ok n) = (fine ≡ true) × Written (length bs) bs 
 Outcome fine bs before after (Err Short) = (fine ≡ true) × Unwritten (length bs) before after
 Outcome fine bs before after (Err BadRow) = (fine ≡ false) × (after ≡ before)
 
--- a row whose count is a byte
-abbrev pub few : {A : Type 0} → List A → Bool
-few xs = nat_le (length xs) 255
-
--- the answer that something was done, and how many bytes it has; rows whose counts are bytes, as a test and as a fact; and a block, of values
+-- the answer that something was done, and how many bytes it has
 abbrev pub done_bytes : List Share → List Data → List Duty → List ℕ → List ℕ
 done_bytes ss ds ys ks = answer_bytes (does (map share_of ss) (map data_of ds) (map duty_of ys) ks)
 
 abbrev pub done_length : List Share → List Data → List Duty → List ℕ → ℕ
 done_length ss ds ys ks = 5 + 137 * length ss + 128 * length ds + 24 * length ys + 8 * length ks
 
-abbrev pub all_few : List Share → List Data → List Duty → List ℕ → Bool
-all_few ss ds ys ks = (few ss && few ds) && (few ys && few ks)
+abbrev pub deeds_bytes : Deeds → List ℕ
+deeds_bytes d = done_bytes d.sent.now d.handed_in.now d.begun.now d.ended.now
 
-abbrev pub AllFew : List Share → List Data → List Duty → List ℕ → Type 0
-AllFew ss ds ys ks = (length ss ≤ 255) × (length ds ≤ 255) × (length ys ≤ 255) × (length ks ≤ 255)
+-- each of its rows has a count that is a byte
+abbrev pub all_few : Deeds → Bool
+all_few d = (few d.sent.now && few d.handed_in.now) && (few d.begun.now && few d.ended.now)
 
+-- a block, of values
 abbrev pub block_bytes : List Data → List ℕ
 block_bytes ds = event_bytes (block (map data_of ds))
 

@@ -3,7 +3,8 @@ ghost use Rattle.std.specs.Prelude.{◌≡◌};
 ghost use Rattle.events.specs.Layout.{parse_answer, parse_refused, parse_done};
 ghost use Rattle.events.specs.Reading.{answer_read, AnswerExact};
 
-use crate::answer::Answer;
+use crate::answer::{Answer, Rows};
+use crate::kind::AnswerKind;
 use crate::row::split_row;
 use wire::{Data, Duty, Fixed, Share};
 
@@ -12,49 +13,34 @@ pub fn read_answer(bytes: &[u8]) -> Option<Answer<'_>>
     ensures answer { answer_read result ≡ parse_answer bytes.now }
     ensures exact { AnswerExact result }
 {
-    let [number, rest @ ..] = bytes else {
-        return None;
-    };
-    match *number {
-        0 => read_refused(rest),
-        1 => read_done(rest),
-        _ => None,
+    let (number, rest) = bytes.split_first()?;
+    match AnswerKind::try_from(*number).ok()? {
+        AnswerKind::Refused => read_refused(rest),
+        AnswerKind::Done => read_done(rest),
     }
 }
 
 fn read_refused(bytes: &[u8]) -> Option<Answer<'_>>
     ensures { answer_read result ≡ parse_refused bytes.now }
 {
-    let [number, rest @ ..] = bytes else {
-        return None;
-    };
-    let Some(place) = u64::read(rest) else {
-        return None;
-    };
-    if rest.len() > 8 {
-        return None;
-    }
-    Some(Answer::Refused(*number, place))
+    let (number, rest) = bytes.split_first()?;
+    let place = u64::read(rest)?;
+    (rest.len() == u64::size()).then_some(Answer::Refused(*number, place))
 }
 
 fn read_done(bytes: &[u8]) -> Option<Answer<'_>>
     ensures answer { answer_read result ≡ parse_done bytes.now }
     ensures exact { AnswerExact result }
 {
-    let Some(sent) = split_row::<Share>(bytes) else {
-        return None;
+    let sent = split_row::<Share>(bytes)?;
+    let handed_in = split_row::<Data>(sent.rest)?;
+    let begun = split_row::<Duty>(handed_in.rest)?;
+    let ended = split_row::<u64>(begun.rest)?;
+    let rows = Rows {
+        sent: sent.row,
+        handed_in: handed_in.row,
+        begun: begun.row,
+        ended: ended.row,
     };
-    let Some(handed_in) = split_row::<Data>(sent.rest) else {
-        return None;
-    };
-    let Some(begun) = split_row::<Duty>(handed_in.rest) else {
-        return None;
-    };
-    let Some(ended) = split_row::<u64>(begun.rest) else {
-        return None;
-    };
-    if ended.rest.len() > 0 {
-        return None;
-    }
-    Some(Answer::Done(sent.row, handed_in.row, begun.row, ended.row))
+    ended.rest.is_empty().then_some(Answer::Done(rows))
 }

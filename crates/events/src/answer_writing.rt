@@ -1,13 +1,15 @@
 // Answers into bytes.
-ghost use Rattle.std.specs.Prelude.{◌≡◌, ◌≤◌, length, MatchResult};
+ghost use Rattle.std.specs.Prelude.{MatchResult};
 ghost use Rattle.wire.specs.Fixed.{Written, Unwritten};
 ghost use Rattle.events.specs.Layout.{answer_bytes};
-ghost use Rattle.events.specs.Writing.{Outcome, all_few, AllFew, done_bytes, done_length};
+ghost use Rattle.events.specs.Writing.{Outcome, all_few, deeds_bytes};
 ghost use Rattle.protocol.specs.Client.{refused};
 
+use crate::answer::Deeds;
+use crate::kind::AnswerKind;
 use crate::not_written::NotWritten;
-use crate::row_writing::{put_row, row_size};
-use wire::{Data, Duty, Fixed, Share, Short};
+use crate::row_writing::Few;
+use wire::{Fixed, Short};
 
 // Writes a refusal at the front of `out`.
 pub fn write_refused(out: &mut [u8], number: u8, place: u64) -> Result<usize, Short>
@@ -16,65 +18,26 @@ pub fn write_refused(out: &mut [u8], number: u8, place: u64) -> Result<usize, Sh
     if out.len() < 10 {
         return Err(Short);
     }
-    out[0] = 0;
+    out[0] = u8::from(AnswerKind::Refused);
     out[1] = number;
-    let Ok(_) = place.write(&mut out[2..]) else {
-        return Err(Short);
-    };
+    place.put(out, 2);
     Ok(10)
 }
 
-// Writes an answer that something was done at the front of `out`: shares sent to all, data handed in, duties begun, slots ended.
-pub fn write_done(
-    out: &mut [u8],
-    sent: &[Share],
-    handed_in: &[Data],
-    begun: &[Duty],
-    ended: &[u64],
-) -> Result<usize, NotWritten>
-    ensures { Outcome (all_few sent.now handed_in.now begun.now ended.now)
-        (done_bytes sent.now handed_in.now begun.now ended.now) out.old out.new result }
+// Writes an answer that something was done at the front of `out`, if each row's count is a byte.
+pub fn write_done(out: &mut [u8], deeds: &Deeds) -> Result<usize, NotWritten>
+    ensures { Outcome (all_few deeds.now) (deeds_bytes deeds.now) out.old out.new result }
 {
-    if !all_few(sent, handed_in, begun, ended) {
-        return Err(NotWritten::BadRow);
-    }
-    if out.len() < done_size(sent, handed_in, begun, ended) {
+    let sent = Few::of(deeds.sent).ok_or(NotWritten::BadRow)?;
+    let handed_in = Few::of(deeds.handed_in).ok_or(NotWritten::BadRow)?;
+    let begun = Few::of(deeds.begun).ok_or(NotWritten::BadRow)?;
+    let ended = Few::of(deeds.ended).ok_or(NotWritten::BadRow)?;
+    if out.len() < 1 + sent.size() + handed_in.size() + begun.size() + ended.size() {
         return Err(NotWritten::Short);
     }
-    Ok(fill_done(out, sent, handed_in, begun, ended))
-}
-
-// Whether each row's count is a byte.
-fn all_few(sent: &[Share], handed_in: &[Data], begun: &[Duty], ended: &[u64]) -> bool
-    ensures { result ≡ all_few sent.now handed_in.now begun.now ended.now }
-{
-    ((sent.len() <= 255) & (handed_in.len() <= 255)) & ((begun.len() <= 255) & (ended.len() <= 255))
-}
-
-// How many bytes the answer has.
-fn done_size(sent: &[Share], handed_in: &[Data], begun: &[Duty], ended: &[u64]) -> usize
-    requires { AllFew sent.now handed_in.now begun.now ended.now }
-    ensures { result ≡ done_length sent.now handed_in.now begun.now ended.now }
-{
-    1 + row_size(sent) + row_size(handed_in) + row_size(begun) + row_size(ended)
-}
-
-// Writes the answer's number and the rows behind it, and says how many bytes they are.
-fn fill_done(
-    out: &mut [u8],
-    sent: &[Share],
-    handed_in: &[Data],
-    begun: &[Duty],
-    ended: &[u64],
-) -> usize
-    requires few { AllFew sent.now handed_in.now begun.now ended.now }
-    requires room { done_length sent.now handed_in.now begun.now ended.now ≤ length out.old }
-    ensures { Written (length (done_bytes sent.now handed_in.now begun.now ended.now))
-        (done_bytes sent.now handed_in.now begun.now ended.now) out.old out.new result }
-{
-    out[0] = 1;
-    let mut at = put_row(out, 1, sent);
-    at = put_row(out, at, handed_in);
-    at = put_row(out, at, begun);
-    put_row(out, at, ended)
+    out[0] = u8::from(AnswerKind::Done);
+    let mut at = sent.put(out, 1);
+    at = handed_in.put(out, at);
+    at = begun.put(out, at);
+    Ok(ended.put(out, at))
 }

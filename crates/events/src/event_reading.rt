@@ -1,15 +1,23 @@
 // Events out of bytes.
-ghost use Rattle.std.specs.Prelude.{◌≡◌, ◌≤◌, true, length, take, drop, MatchResult};
+ghost use Rattle.std.specs.Prelude.{◌≡◌, ◌<◌, ◌≤◌, true, length, drop, MatchResult};
 ghost use Rattle.events.specs.Layout.{exactly, parse, parse_block};
 ghost use Rattle.events.specs.Reading.{read_as, EventExact};
 ghost use Rattle.protocol.specs.Client as client;
-ghost use Rattle.protocol.specs.Client.{duty, decided, share, resend, garbled};
+ghost use Rattle.protocol.specs.Client.{resend, garbled};
 ghost use Rattle.protocol.specs.Promise.{readable};
-ghost use Rattle.wire.specs.Bytes.{le_value, data_from, duty_from, share_from};
 
 use crate::event::{Event, Garbled};
+use crate::kind::{EventKind, NoKind};
 use crate::row::split_row;
-use wire::{Data, Duty, Fixed, Share};
+use wire::{Data, Fixed};
+
+impl From<NoKind> for Garbled {
+    ghost from_gives = { λ _ g. g.place ≡ 0 };
+
+    fn from(_no_kind: NoKind) -> Garbled {
+        Garbled { place: 0 }
+    }
+}
 
 // Which event some bytes are, or the place where they cease to be one.
 pub fn read_event(bytes: &[u8]) -> Result<Event<'_>, Garbled>
@@ -17,51 +25,16 @@ pub fn read_event(bytes: &[u8]) -> Result<Event<'_>, Garbled>
     ensures carried { readable (read_as result) ≡ true }
     ensures exact { EventExact result }
 {
-    let [number, ..] = bytes else {
-        return Err(Garbled { place: 0 });
-    };
-    match *number {
-        0 => read_duty(bytes),
-        1 => read_decided(bytes),
-        2 => read_share(bytes),
-        3 => read_block(bytes),
-        4 => read_resend(bytes),
-        _ => Err(Garbled { place: 0 }),
-    }
-}
-
-fn read_duty(bytes: &[u8]) -> Result<Event<'_>, Garbled>
-    requires { 1 ≤ length bytes.now }
-    ensures { read_as result ≡ exactly 1 24 (drop 1 bytes.now) (duty (duty_from (drop 1 bytes.now))) }
-{
-    match last::<Duty>(bytes, 1) {
-        Ok(duty) => Ok(Event::OnDuty(duty)),
-        Err(garbled) => Err(garbled),
-    }
-}
-
-fn read_decided(bytes: &[u8]) -> Result<Event<'_>, Garbled>
-    requires { 1 ≤ length bytes.now }
-    ensures { read_as result ≡ exactly 1 136 (drop 1 bytes.now) (decided (le_value (take 8 (drop 1 bytes.now))) (data_from (drop 9 bytes.now))) }
-{
-    let Some(slot) = u64::read(&bytes[1..]) else {
-        return Err(Garbled {
-            place: bytes.len() as u64,
-        });
-    };
-    match last::<Data>(bytes, 9) {
-        Ok(data) => Ok(Event::Decided(slot, data)),
-        Err(garbled) => Err(garbled),
-    }
-}
-
-fn read_share(bytes: &[u8]) -> Result<Event<'_>, Garbled>
-    requires { 1 ≤ length bytes.now }
-    ensures { read_as result ≡ exactly 1 137 (drop 1 bytes.now) (share (share_from (drop 1 bytes.now))) }
-{
-    match last::<Share>(bytes, 1) {
-        Ok(share) => Ok(Event::ShareCame(share)),
-        Err(garbled) => Err(garbled),
+    let (number, _) = bytes.split_first().ok_or(NoKind)?;
+    match EventKind::try_from(*number)? {
+        EventKind::Duty => Ok(Event::OnDuty(last(bytes, 1)?)),
+        EventKind::Decided => {
+            let (slot, data) = last(bytes, 1)?;
+            Ok(Event::Decided(slot, data))
+        }
+        EventKind::Share => Ok(Event::ShareCame(last(bytes, 1)?)),
+        EventKind::Block => read_block(bytes),
+        EventKind::Resend => read_resend(bytes),
     }
 }
 
@@ -70,16 +43,10 @@ fn read_block(bytes: &[u8]) -> Result<Event<'_>, Garbled>
     ensures event { read_as result ≡ parse_block (drop 1 bytes.now) }
     ensures exact { EventExact result }
 {
-    let Some(split) = split_row::<Data>(&bytes[1..]) else {
-        return Err(Garbled {
-            place: bytes.len() as u64,
-        });
-    };
-    if split.rest.len() > 0 {
-        return Err(Garbled {
-            place: (bytes.len() - split.rest.len()) as u64,
-        });
-    }
+    let split = split_row::<Data>(&bytes[1..]).ok_or(Garbled {
+        place: bytes.len() as u64,
+    })?;
+    end(bytes, bytes.len() - split.rest.len())?;
     Ok(Event::Block(split.row))
 }
 
@@ -87,9 +54,7 @@ fn read_resend(bytes: &[u8]) -> Result<Event<'_>, Garbled>
     requires { 1 ≤ length bytes.now }
     ensures { read_as result ≡ exactly 1 0 (drop 1 bytes.now) resend }
 {
-    if bytes.len() > 1 {
-        return Err(Garbled { place: 1 });
-    }
+    end(bytes, 1)?;
     Ok(Event::Resend)
 }
 
@@ -100,14 +65,21 @@ fn last<T: Fixed + Drop>(bytes: &[u8], at: usize) -> Result<T, Garbled>
         (λ x. T.Fixed.reads (drop at bytes.now) x × ((e : client.Event) → exactly at T.Fixed.width (drop at bytes.now) e ≡ e))
         (λ g. (e : client.Event) → exactly at T.Fixed.width (drop at bytes.now) e ≡ garbled g.place) }
 {
-    let Some(value) = T::read(&bytes[at..]) else {
-        return Err(Garbled {
-            place: bytes.len() as u64,
-        });
-    };
-    let end = at + T::size();
-    if bytes.len() > end {
-        return Err(Garbled { place: end as u64 });
-    }
+    let value = T::read(&bytes[at..]).ok_or(Garbled {
+        place: bytes.len() as u64,
+    })?;
+    end(bytes, at + T::size())?;
     Ok(value)
+}
+
+// The bytes end at this place: what stands behind it begins no event.
+fn end(bytes: &[u8], place: usize) -> Result<(), Garbled>
+    ensures { MatchResult result (λ _. length bytes.now ≤ place) (λ g. (place < length bytes.now) × (g.place ≡ place)) }
+{
+    if bytes.len() > place {
+        return Err(Garbled {
+            place: place as u64,
+        });
+    }
+    Ok(())
 }

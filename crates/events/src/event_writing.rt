@@ -1,15 +1,17 @@
 // Events into bytes.
 ghost use Rattle.std.specs.Prelude.{◌*◌, true, ◌∷◌, length, nat_le};
+ghost use Rattle.events.specs.Kinds.{event_kind};
 ghost use Rattle.events.specs.Layout.{entries, event_bytes};
 ghost use Rattle.events.specs.Meaning.{event_of};
-ghost use Rattle.events.specs.Writing.{Outcome, few, block_bytes, row_long_enough};
-ghost use Rattle.protocol.specs.Client.{decided, block, resend};
+ghost use Rattle.events.specs.Rows.{few};
+ghost use Rattle.events.specs.Writing.{Outcome, block_bytes, row_long_enough};
+ghost use Rattle.protocol.specs.Client.{block, resend};
 ghost use Rattle.wire.specs.Bytes.{data_from};
-ghost use Rattle.wire.specs.Meaning.{data_of};
 
 use crate::event::Event;
+use crate::kind::EventKind;
 use crate::not_written::NotWritten;
-use crate::row_writing::{put_row, row_size};
+use crate::row_writing::Few;
 use wire::{Data, Fixed};
 
 // Writes an event at the front of `out`, if a block's row reaches as far as its count.
@@ -17,9 +19,9 @@ pub fn write_event(out: &mut [u8], event: &Event) -> Result<usize, NotWritten>
     ensures { Outcome (row_long_enough event.now) (event_bytes (event_of event.now)) out.old out.new result }
 {
     match *event {
-        Event::OnDuty(duty) => write_one(out, 0, &duty),
-        Event::Decided(slot, data) => write_decided(out, slot, &data),
-        Event::ShareCame(share) => write_one(out, 2, &share),
+        Event::OnDuty(duty) => write_one(out, EventKind::Duty, &duty),
+        Event::Decided(slot, data) => write_one(out, EventKind::Decided, &(slot, data)),
+        Event::ShareCame(share) => write_one(out, EventKind::Share, &share),
         Event::Block(row) => write_lent(out, row.count, row.bytes),
         Event::Resend => write_resend(out),
     }
@@ -29,58 +31,38 @@ pub fn write_event(out: &mut [u8], event: &Event) -> Result<usize, NotWritten>
 pub fn write_block(out: &mut [u8], data: &[Data]) -> Result<usize, NotWritten>
     ensures { Outcome (few «data».now) (block_bytes «data».now) out.old out.new result }
 {
-    if data.len() > 255 {
-        return Err(NotWritten::BadRow);
-    }
-    if out.len() < 1 + row_size(data) {
+    let row = Few::of(data).ok_or(NotWritten::BadRow)?;
+    if out.len() < 1 + row.size() {
         return Err(NotWritten::Short);
     }
-    out[0] = 3;
-    Ok(put_row(out, 1, data))
+    out[0] = u8::from(EventKind::Block);
+    Ok(row.put(out, 1))
 }
 
 // An event's number and one value.
-fn write_one<T: Fixed>(out: &mut [u8], number: u8, value: &T) -> Result<usize, NotWritten>
-    ensures { Outcome true (number ∷ T.Fixed.coded value.now) out.old out.new result }
+fn write_one<T: Fixed>(out: &mut [u8], kind: EventKind, value: &T) -> Result<usize, NotWritten>
+    ensures { Outcome true (event_kind kind ∷ T.Fixed.coded value.now) out.old out.new result }
 {
     if out.len() < 1 + T::size() {
         return Err(NotWritten::Short);
     }
-    out[0] = number;
-    let Ok(n) = value.write(&mut out[1..]) else {
-        return Err(NotWritten::Short);
-    };
-    Ok(1 + n)
-}
-
-fn write_decided(out: &mut [u8], slot: u64, data: &Data) -> Result<usize, NotWritten>
-    ensures { Outcome true (event_bytes (decided slot (data_of «data».now))) out.old out.new result }
-{
-    if out.len() < 137 {
-        return Err(NotWritten::Short);
-    }
-    out[0] = 1;
-    let Ok(_) = slot.write(&mut out[1..]) else {
-        return Err(NotWritten::Short);
-    };
-    let Ok(_) = data.write(&mut out[9..]) else {
-        return Err(NotWritten::Short);
-    };
-    Ok(137)
+    out[0] = u8::from(kind);
+    value.put(out, 1);
+    Ok(1 + T::size())
 }
 
 // A block whose data lies in lent bytes.
 fn write_lent(out: &mut [u8], count: u8, bytes: &[u8]) -> Result<usize, NotWritten>
     ensures { Outcome (nat_le (128 * count) (length bytes.now)) (event_bytes (block (entries 128 data_from count bytes.now))) out.old out.new result }
 {
-    let size = 128 * count as usize;
+    let size = 128 * usize::from(count);
     if bytes.len() < size {
         return Err(NotWritten::BadRow);
     }
     if out.len() < 2 + size {
         return Err(NotWritten::Short);
     }
-    out[0] = 3;
+    out[0] = u8::from(EventKind::Block);
     out[1] = count;
     out[2..2 + size].copy_from_slice(&bytes[0..size]);
     Ok(2 + size)
@@ -92,6 +74,6 @@ fn write_resend(out: &mut [u8]) -> Result<usize, NotWritten>
     if out.len() < 1 {
         return Err(NotWritten::Short);
     }
-    out[0] = 4;
+    out[0] = u8::from(EventKind::Resend);
     Ok(1)
 }

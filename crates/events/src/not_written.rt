@@ -1,4 +1,7 @@
 // Why nothing was written.
+ghost use Rattle.std.specs.Prelude.{◌≡◌};
+
+use wire::Short;
 
 #[derive(Clone, Copy, PartialEq, Eq, Debug)]
 pub enum NotWritten {

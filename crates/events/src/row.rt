@@ -6,6 +6,7 @@ ghost use Rattle.events.specs.Rows.{EntryAt, InFront};
 use wire::Fixed;
 
 // A row as it lies in some bytes: how many entries there are, and the part of the bytes that holds them, one after the other.
+// Stays: lent bytes with a count beside them, since a row may be cut short: it can't be written then, and has no text.
 #[derive(Clone, Copy)]
 pub struct Row<'a> {
     pub count: u8,
@@ -25,7 +26,7 @@ impl Row<'_> {
         ensures counted { result ≡ self.now.count }
         ensures few { result ≤ 255 }
     {
-        self.count as usize
+        usize::from(self.count)
     }
 
     // The entry at a place, if the row has so many and its bytes reach that far.
@@ -35,11 +36,7 @@ impl Row<'_> {
         if i >= self.len() {
             return None;
         }
-        let at = T::size() * i;
-        if at > self.bytes.len() {
-            return None;
-        }
-        T::read(&self.bytes[at..])
+        T::read(self.bytes.get(T::size() * i..)?)
     }
 }
 
@@ -47,19 +44,11 @@ impl Row<'_> {
 pub fn split_row<T: Fixed>(bytes: &[u8]) -> Option<Split<'_>>
     ensures { MatchOption result (row_there T.Fixed.width bytes.now ≡ false) (λ s. InFront T.Fixed.width bytes.now s.row.count s.row.bytes.now s.rest.now) }
 {
-    let [count, behind @ ..] = bytes else {
-        return None;
-    };
-    let size = T::size() * *count as usize;
-    if behind.len() < size {
-        return None;
-    }
+    let (count, behind) = bytes.split_first()?;
+    let (bytes, rest) = behind.split_at_checked(T::size() * usize::from(*count))?;
     let row = Row {
         count: *count,
-        bytes: &behind[0..size],
+        bytes,
     };
-    Some(Split {
-        row,
-        rest: &behind[size..],
-    })
+    Some(Split { row, rest })
 }

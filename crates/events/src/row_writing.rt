@@ -1,49 +1,68 @@
 // Rows of entries into bytes.
-ghost use Rattle.std.specs.Prelude.{◌≡◌, ◌+◌, ◌*◌, ◌≤◌, length};
+ghost use Rattle.std.specs.Prelude.{◌≡◌, ◌+◌, ◌*◌, ◌≤◌, false, true, length, MatchOption};
 ghost use Rattle.wire.specs.Fixed.{placed};
 ghost use Rattle.events.specs.Layout.{all_bytes, row_bytes};
+ghost use Rattle.events.specs.Rows.{few};
 
 use wire::Fixed;
 
-// How many bytes a row has whose count is a byte.
-pub(crate) fn row_size<T: Fixed>(row: &[T]) -> usize
-    requires { length row.now ≤ 255 }
-    ensures counted { result ≡ 1 + T.Fixed.width * length row.now }
-    ensures small { result ≤ 65026 }
-{
-    1 + T::size() * row.len()
+// Entries so few that a byte counts them.
+#[derive(Drop)]
+pub(crate) struct Few<'a, T> {
+    entries: &'a [T],
+    ghost few: { length entries.now ≤ 255 },
 }
 
-// Puts a row from a place on: it is handed the part of the bytes that starts there. Says where the row ends.
-pub(crate) fn put_row<T: Fixed>(out: &mut [u8], at: usize, row: &[T]) -> usize
-    requires few { length row.now ≤ 255 }
-    requires room { at + (1 + T.Fixed.width * length row.now) ≤ length out.old }
-    ensures ends { result ≡ at + (1 + T.Fixed.width * length row.now) }
-    ensures holds { out.new ≡ placed at (1 + T.Fixed.width * length row.now) (row_bytes T.Fixed.coded row.now) out.old }
-{
-    at + write_row(&mut out[at..], row)
-}
+impl<'a, T: Fixed> Few<'a, T> {
+    // These entries, if a byte counts them.
+    pub(crate) fn of(entries: &'a [T]) -> Option<Few<'a, T>>
+        ensures { MatchOption result (few entries.now ≡ false) (λ r. (few entries.now ≡ true) × (r.entries.now ≡ entries.now)) }
+    {
+        if entries.len() > 255 {
+            return None;
+        }
+        Some(Few { entries })
+    }
 
-// Writes a row, its count and its entries, at the front of some bytes, and says how many they are.
-fn write_row<T: Fixed>(out: &mut [u8], row: &[T]) -> usize
-    requires few { length row.now ≤ 255 }
-    requires room { 1 + T.Fixed.width * length row.now ≤ length out.old }
-    ensures counted { result ≡ 1 + T.Fixed.width * length row.now }
-    ensures holds { out.new ≡ placed 0 (1 + T.Fixed.width * length row.now) (row_bytes T.Fixed.coded row.now) out.old }
-{
-    out[0] = row.len() as u8;
-    put_entries(out, 1, row)
+    // How many bytes a row of them has.
+    pub(crate) fn size(&self) -> usize
+        ensures counted { result ≡ 1 + T.Fixed.width * length self.now.entries.now }
+        ensures small { result ≤ 65026 }
+    {
+        1 + T::size() * self.entries.len()
+    }
+
+    // Puts a row of them from a place on: it is handed the part of the bytes that starts there. Says where the row ends.
+    pub(crate) fn put(&self, out: &mut [u8], at: usize) -> usize
+        requires { at + (1 + T.Fixed.width * length self.now.entries.now) ≤ length out.old }
+        ensures ends { result ≡ at + (1 + T.Fixed.width * length self.now.entries.now) }
+        ensures holds { out.new ≡ placed at (1 + T.Fixed.width * length self.now.entries.now) (row_bytes T.Fixed.coded self.now.entries.now) out.old }
+    {
+        at + self.write(&mut out[at..])
+    }
+
+    // Writes a row of them, their count and then each, at the front of some bytes, and says how many they are.
+    fn write(&self, out: &mut [u8]) -> usize
+        requires { 1 + T.Fixed.width * length self.now.entries.now ≤ length out.old }
+        ensures counted { result ≡ 1 + T.Fixed.width * length self.now.entries.now }
+        ensures holds { out.new ≡ placed 0 (1 + T.Fixed.width * length self.now.entries.now) (row_bytes T.Fixed.coded self.now.entries.now) out.old }
+    {
+        out[0] = self.entries.len() as u8;
+        put_entries(out, 1, self.entries)
+    }
 }
 
 // Puts entries one after the other, from a place on, and says where they end.
-fn put_entries<T: Fixed>(out: &mut [u8], at: usize, row: &[T]) -> usize
-    requires { at + T.Fixed.width * length row.now ≤ length out.old }
-    ensures ends { result ≡ at + T.Fixed.width * length row.now }
-    ensures holds { out.new ≡ placed at (T.Fixed.width * length row.now) (all_bytes T.Fixed.coded row.now) out.old }
+fn put_entries<T: Fixed>(out: &mut [u8], at: usize, entries: &[T]) -> usize
+    requires { at + T.Fixed.width * length entries.now ≤ length out.old }
+    ensures ends { result ≡ at + T.Fixed.width * length entries.now }
+    ensures holds { out.new ≡ placed at (T.Fixed.width * length entries.now) (all_bytes T.Fixed.coded entries.now) out.old }
 {
+    // Stays: the place moves on by an entry's width; one counted by `enumerate` would be multiplied out anew for each.
     let mut end = at;
-    for entry in row {
-        end += entry.write(&mut out[end..]).unwrap_or(0);
+    for entry in entries {
+        entry.put(out, end);
+        end += T::size();
     }
     end
 }

@@ -1,4 +1,4 @@
 pub mod Places
-mod NewMemory
+pub mod NewMemory
 mod Numbered
 pub mod Passing

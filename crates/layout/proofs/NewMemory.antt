@@ -1,6 +1,5 @@
 -- The memory of a new client is its header and zeros.
-use Rattle.std.proofs.Common.{◌≡◌, ℕ, zero, suc, ◌+◌, ◌-◌, ◌*◌, ◌≤◌, List, [], ◌∷◌, ◌++◌, map, length, take, drop, set, replicate, sym, refl, ap, ◌∙◌, subst, ap₂, append-nil, mul-zero, mul-suc, arith, length-take}
-use borrow.Rule.Slice.PartMut.{put_mid}
+use Rattle.std.proofs.Common.{◌≡◌, ℕ, zero, suc, ◌+◌, ◌-◌, ◌*◌, ◌≤◌, List, [], ◌∷◌, ◌++◌, map, length, take, drop, replicate, sym, refl, ap, ◌∙◌, subst, ap₂, append-nil, mul-zero, mul-suc, arith, length-take}
 use lib.ListN.{replicate-append-replicate}
 use Rattle.rows.specs.Rows.{flat, laid}
 use Rattle.past.specs.Past.{row_of}
@@ -31,7 +30,7 @@ marks_free n zero = refl
 marks_free n (suc k) = ap (λ t. 0 ∷ t) (marks_free n k)
 
 -- a free bank's numbers, and those of several
-free_numbers : (n : ℕ) → flat (map cell_numbers (replicate n empty)) ≡ replicate (18 * n) 0
+pub free_numbers : (n : ℕ) → flat (map cell_numbers (replicate n empty)) ≡ replicate (18 * n) 0
 unfolding flat cell_numbers
 free_numbers zero = refl
 free_numbers (suc n) =
@@ -69,20 +68,19 @@ fresh_numbers z =
     ap (λ t. 1 ∷ (z.clients ∷ (z.me ∷ (z.kept ∷ (z.waiting ∷ (0 ∷ (0 ∷ (0 ∷ t)))))))) (rest_zeros z)
     ∙ ap (λ t. 1 ∷ (z.clients ∷ (z.me ∷ (z.kept ∷ (z.waiting ∷ t))))) (replicate-append-replicate 3 (needed z - 8) 0 ∙ ap (λ k. replicate k 0) more)
 
--- zeros and then the five numbers, written over the front of a slice
-new_memory : (z : Sizes) (size k : ℕ) (xs part : List ℕ) → size ≡ needed z → k ≡ size → size ≤ length xs → part ≡ replicate (length (take k (drop 0 xs))) 0 → set (set (set (set (set (put_mid 0 k xs part) 0 1) 1 z.clients) 2 z.me) 3 z.kept) 4 z.waiting ≡ encode (fresh z) ++ drop (needed z) xs
-new_memory z size k xs part s e room zeros =
-    let long : length (take k (drop 0 xs)) ≡ 5 + (needed z - 5) = simp length-take (omega arith) in
-    let cleared : part ≡ 0 ∷ (0 ∷ (0 ∷ (0 ∷ (0 ∷ replicate (needed z - 5) 0)))) =
-    zeros ∙ ap (λ j. replicate j 0) long ∙ sym (replicate-append-replicate 5 (needed z - 5) 0) in
-    let size_is : k ≡ needed z = omega arith in
-    ap₂ (λ p j. set (set (set (set (set (p ++ drop j xs) 0 1) 1 z.clients) 2 z.me) 3 z.kept) 4 z.waiting) cleared size_is
-    ∙ ap (λ t. t ++ drop (needed z) xs) (sym (fresh_numbers z))
+-- zeros over the front of a slice, and then the five numbers over theirs
+new_memory : (z : Sizes) (k : ℕ) (xs zeros row : List ℕ) → k ≡ needed z → k ≤ length xs → zeros ≡ replicate (length (take k xs)) 0 → row ≡ 1 ∷ (z.clients ∷ (z.me ∷ (z.kept ∷ (z.waiting ∷ [])))) → row ++ drop 5 (zeros ++ drop k xs) ≡ encode (fresh z) ++ drop (needed z) xs
+new_memory z k xs zeros row size room cleared five =
+    let long : length (take k xs) ≡ 5 + (needed z - 5) = simp length-take (omega arith) in
+    let front : zeros ≡ 0 ∷ (0 ∷ (0 ∷ (0 ∷ (0 ∷ replicate (needed z - 5) 0)))) =
+    cleared ∙ ap (λ j. replicate j 0) long ∙ sym (replicate-append-replicate 5 (needed z - 5) 0) in
+    ap₂ (λ (r p : List ℕ). r ++ drop 5 (p ++ drop k xs)) five front
+    ∙ ap₂ (λ (t : List ℕ) j. t ++ drop j xs) (sym (fresh_numbers z)) size
 
-pub opened : (z : Sizes) (l : Limits) (size k : ℕ) (xs part : List ℕ) → z ≡ limit_sizes l → GoodSizes z → size ≡ needed z → k ≡ size → size ≤ length xs → part ≡ replicate (length (take k (drop 0 xs))) 0 → Opened l xs (set (set (set (set (set (put_mid 0 k xs part) 0 1) 1 z.clients) 2 z.me) 3 z.kept) 4 z.waiting)
-opened z l size k xs part same good s e room zeros =
+pub opened : (z : Sizes) (l : Limits) (k : ℕ) (xs zeros row : List ℕ) → z ≡ limit_sizes l → GoodSizes z → k ≡ needed z → k ≤ length xs → zeros ≡ replicate (length (take k xs)) 0 → row ≡ 1 ∷ (z.clients ∷ (z.me ∷ (z.kept ∷ (z.waiting ∷ [])))) → Opened l xs (row ++ drop 5 (zeros ++ drop k xs))
+opened z l k xs zeros row same good size room cleared five =
     record {
       good = subst GoodSizes same good;
       room = subst (λ (y : Sizes). needed y ≤ length xs) same (omega arith);
-      holds = new_memory z size k xs part s e room zeros ∙ ap (λ y. encode (fresh y) ++ drop (needed y) xs) same;
+      holds = new_memory z k xs zeros row size room cleared five ∙ ap (λ y. encode (fresh y) ++ drop (needed y) xs) same;
     }

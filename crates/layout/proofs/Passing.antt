@@ -1,4 +1,5 @@
 -- A client's memory passes the test of what may be one.
+use Rattle.std.specs.declared.ops.Range.{Range}
 use Rattle.std.proofs.Common.{◌≡◌, ℕ, ◌+◌, ◌-◌, ◌<◌, ◌≤◌, true, leb, List, [], ◌++◌, length, get_or, take, drop, sym, refl, ap, ◌∙◌, add-zero, arith, length-append, get_or-drop, get_or-take}
 use Rattle.std.proofs.lemmas.List.{get_or_append_left}
 use Rattle.std.proofs.lemmas.Bool.{and_from, le-leb, lt-ltb, eq-eqb}
@@ -10,7 +11,6 @@ use Rattle.stored.proofs.Regions.{has_its_size}
 use Rattle.layout.specs.Layout.{start_of, size_of, good_sizes, counts_fit, plausible, MemoryIsPlausible}
 use Rattle.layout.specs.declared.region.Region.{Region}
 use Rattle.layout.specs.declared.region.Region.TheVariants.{Past, Queue, Active, Ahead, Own, Marks, Cells}
-use Rattle.layout.specs.declared.region.Span.{Span}
 use Rattle.layout.proofs.Places.{place, lent}
 
 good_test : (z : Sizes) → GoodSizes z → good_sizes z ≡ true
@@ -33,7 +33,7 @@ first_number : (r : Region) (t : Stored) (rest : List ℕ) → Well t → 1 ≤ 
 first_number r t rest w some =
     let z : Sizes = t.sizes in
     let at : ℕ = start_of z r in
-    let s : Span = record { start = at; end = at + size_of z r } in
+    let s : Range ℕ = record { start = at; end = at + size_of z r } in
     let part : take (at + size_of z r - at) (drop at (encode t)) ≡ get_or (regions t) (place r) [] =
     lent z r s (encode t) t (record { starts = refl; ends = refl }) (record { sized = refl; well = w; is = refl }) in
     let inside : at < length (encode t) = omega (arith, (has_its_size t w).0, within r z) in

@@ -1,5 +1,6 @@
 -- The regions of a memory by their places: what is lent of a region is what it holds, and another content written there is another stored client.
-use Rattle.std.proofs.Common.{◌≡◌, ℕ, ◌-◌, ◌<◌, List, [], length, get_or, take, drop, set, sym, ap, ◌∙◌, arith}
+use Rattle.std.specs.declared.ops.Range.{Range}
+use Rattle.std.proofs.Common.{◌≡◌, ℕ, ◌-◌, ◌<◌, List, [], length, get_or, take, drop, set, sym, refl, ap, ◌∙◌, arith}
 use borrow.Rule.Slice.PartMut.{put_mid}
 use Rattle.rows.specs.Rows.{flat}
 use Rattle.stored.specs.Stored.{Sizes, Stored}
@@ -8,8 +9,8 @@ use Rattle.stored.specs.Kept.{Well, Held}
 use Rattle.stored.proofs.Parts.{start, part_at, put_part}
 use Rattle.stored.proofs.Regions.{region_start, region_length}
 use Rattle.layout.specs.Layout.{start_of, size_of, Spans}
+use Rattle.layout.specs.Memory.{content}
 use Rattle.layout.specs.declared.region.Region.{Region}
-use Rattle.layout.specs.declared.region.Span.{Span}
 use Rattle.layout.specs.declared.region.Region.TheVariants.{Past, Queue, Active, Ahead, Own, Marks, Cells}
 
 -- which of the regions it is, the header being the first
@@ -21,6 +22,16 @@ place Ahead = 4
 place Own = 5
 place Marks = 6
 place Cells = 7
+
+pub held_there : (r : Region) (t : Stored) → get_or (regions t) (place r) [] ≡ content r t
+unfolding regions
+held_there Past t = refl
+held_there Queue t = refl
+held_there Active t = refl
+held_there Ahead t = refl
+held_there Own t = refl
+held_there Marks t = refl
+held_there Cells t = refl
 
 there : (r : Region) (t : Stored) → place r < length (regions t)
 unfolding regions
@@ -54,10 +65,10 @@ sized_so Marks t w = sym (region_length t 6 w)
 sized_so Cells t w = sym (region_length t 7 w)
 
 -- how many numbers a region's span has
-span_size : (z : Sizes) (r : Region) (s : Span) → Spans z r s → s.end - s.start ≡ size_of z r
+span_size : (z : Sizes) (r : Region) (s : Range ℕ) → Spans z r s → s.end - s.start ≡ size_of z r
 span_size z r s p = let a = p.starts in let b = p.ends in omega arith
 
-module _ (z : Sizes) (r : Region) (s : Span) (xs : List ℕ) (t : Stored) (p : Spans z r s) (h : Held z xs t) where
+module _ (z : Sizes) (r : Region) (s : Range ℕ) (xs : List ℕ) (t : Stored) (p : Spans z r s) (h : Held z xs t) where
   begins : s.start ≡ start (regions t) (place r)
   begins = p.starts ∙ ap (λ y. start_of y r) (sym h.sized) ∙ starts_there r t h.well
 
@@ -68,6 +79,9 @@ module _ (z : Sizes) (r : Region) (s : Span) (xs : List ℕ) (t : Stored) (p : S
   pub lent : take (s.end - s.start) (drop s.start xs) ≡ get_or (regions t) (place r) []
   unfolding encode
   lent = ap (λ ys. take (s.end - s.start) (drop s.start ys)) h.is ∙ part_at (regions t) (place r) s.start (s.end - s.start) begins long
+
+  pub shown : take (s.end - s.start) (drop s.start xs) ≡ content r t
+  shown = lent ∙ held_there r t
 
   -- written anew, it is that of another client
   pub written : (part : List ℕ) (t' : Stored) → Well t' → t'.sizes ≡ t.sizes → set (regions t) (place r) part ≡ regions t' → Held z (put_mid s.start (s.end - s.start) xs part) t'

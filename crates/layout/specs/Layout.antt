@@ -1,5 +1,6 @@
 -- Where the regions of a client's memory lie, what a memory's header must say, and what memory is like after opening.
 -- Assumes nothing: these are definitions and statements.
+use Rattle.std.specs.declared.ops.Range.{Range}
 use Rattle.std.specs.Prelude.{◌≡◌, ℕ, ◌+◌, ◌*◌, ◌≤◌, Bool, true, ◌&&◌, List, ◌++◌, length, drop, ◌==◌, nat_le, nat_lt, slice_index}
 use Rattle.protocol.specs.Meaning.{FirstWrong}
 use Rattle.protocol.specs.declared.sizes.Limits.{Limits}
@@ -9,7 +10,6 @@ use Rattle.stored.specs.Kept.{GoodSizes, Well}
 use Rattle.layout.specs.declared.layout.Layout.{Layout}
 use Rattle.layout.specs.declared.region.Region.{Region}
 use Rattle.layout.specs.declared.region.Region.TheVariants.{Past, Queue, Active, Ahead, Own, Marks, Cells}
-use Rattle.layout.specs.declared.region.Span.{Span}
 use Rattle.layout.specs.declared.opening.OpenError.{OpenError}
 use Rattle.layout.specs.declared.opening.OpenError.TheVariants.{BadLimits, ShortMemory}
 
@@ -42,8 +42,8 @@ size_of z Own = 1 + 18 * z.waiting
 size_of z Marks = 2 * z.waiting
 size_of z Cells = 36 * (z.clients * z.waiting)
 
--- a span that is a region's
-pub record Spans (z : Sizes) (r : Region) (s : Span) : Type 0 where
+-- a range that is a region's
+pub record Spans (z : Sizes) (r : Region) (s : Range ℕ) : Type 0 where
   pub starts : s.start ≡ start_of z r
   pub ends : s.end ≡ start_of z r + size_of z r
 
@@ -64,6 +64,12 @@ counts_fit z xs =
 abbrev pub plausible : List ℕ → Bool
 plausible xs =
     ((slice_index xs 0 == 1 && good_sizes (sizes_in xs)) && nat_le (needed (sizes_in xs)) (length xs)) && counts_fit (sizes_in xs) xs
+
+-- a slice has numbers at its front that may be a client's memory, laid out so
+pub record Front (xs : List ℕ) (l : Layout) : Type 0 where
+  pub passes : plausible xs ≡ true
+  pub sized : sizes l ≡ sizes_in xs
+  pub room : needed (sizes l) ≤ length xs
 
 -- a client's memory may always be one, whatever stands behind it
 abbrev pub MemoryIsPlausible : Type 0

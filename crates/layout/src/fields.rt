@@ -2,12 +2,12 @@
 ghost use Rattle.std.specs.Prelude.{◌≡◌};
 ghost use Rattle.layout.specs.Fields.{field_place};
 
-// Whether a duty is at hand (1) or none is (0); one more than the slot of the last duty begun; one more than that of the last duty given.
+// By its place in the header: whether a duty is at hand (1) or none is (0); one more than the slot of the last duty begun; one more than that of the last duty given.
 #[derive(Clone, Copy)]
 pub enum Field {
-    AtHand,
-    Latest,
-    After,
+    AtHand = 5,
+    Latest = 6,
+    After = 7,
 }
 
 impl Field {
@@ -15,10 +15,6 @@ impl Field {
     pub(crate) fn place(self) -> usize
         ensures { result ≡ field_place self }
     {
-        match self {
-            Field::AtHand => 5,
-            Field::Latest => 6,
-            Field::After => 7,
-        }
+        self as usize
     }
 }

@@ -4,12 +4,16 @@
 pub mod fields;
 pub mod header;
 pub mod layout;
+pub mod lending;
+pub mod memory;
 pub mod opening;
 pub mod region;
 pub mod spans;
 
 pub use fields::Field;
-pub use header::{get, layout_for, open, put};
+pub use header::{get, open, put};
 pub use layout::Layout;
+pub use memory::{Memory, View};
 pub use opening::OpenError;
-pub use region::{Region, Span};
+pub use region::Region;
+pub use spans::needed;

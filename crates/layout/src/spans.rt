@@ -1,79 +1,90 @@
-// Where the regions lie.
-ghost use Rattle.std.specs.Prelude.{◌≡◌, ◌≤◌, true, false, length, MatchOption};
+// What a memory is laid out by, and where the regions lie.
+ghost use Rattle.std.specs.Prelude.{◌≡◌, ◌+◌, ◌*◌, ◌≤◌, true, false, length, nat_le, slice_index, MatchOption, MatchResult};
+ghost use Rattle.protocol.specs.Meaning.{FirstWrong};
 ghost use Rattle.stored.specs.Numbers.{needed, sizes_in};
-ghost use Rattle.layout.specs.Layout.{sizes, made_of, Spans, good_sizes, counts_fit, plausible};
+ghost use Rattle.layout.specs.Layout.{sizes, limit_sizes, start_of, size_of, Spans, counts_fit, plausible, Front};
 
 use crate::layout::Layout;
-use crate::region::{Region, Span};
+use crate::region::Region;
+use protocol::{Limits, LimitsError};
+use std::ops::Range;
+
+// How many numbers the memory of a client with these limits has.
+pub fn needed(limits: &Limits) -> usize
+    ensures { result ≡ needed (limit_sizes limits.now) }
+{
+    numbers_for(
+        usize::from(limits.clients),
+        usize::from(limits.kept),
+        usize::from(limits.waiting),
+    )
+}
+
+// How many numbers there are for so many clients, entries of the past and duties.
+fn numbers_for(clients: usize, kept: usize, waiting: usize) -> usize
+    requires { (clients ≤ 65535) × (kept ≤ 65535) × (waiting ≤ 255) }
+    ensures { result ≡ 13 + 2 * kept + 42 * waiting + 36 * (clients * waiting) }
+{
+    13 + 2 * kept + 42 * waiting + 36 * (clients * waiting)
+}
+
+impl TryFrom<&Limits> for Layout {
+    type Error = LimitsError;
+
+    ghost try_from_gives = { λ limits r. MatchResult r (λ l. sizes l ≡ limit_sizes limits.now) (λ e. FirstWrong limits.now e) };
+
+    fn try_from(limits: &Limits) -> Result<Layout, LimitsError> {
+        limits.check()?;
+        Ok(Layout {
+            clients: usize::from(limits.clients),
+            me: usize::from(limits.me),
+            kept: usize::from(limits.kept),
+            waiting: usize::from(limits.waiting),
+        })
+    }
+}
 
 impl Layout {
     // The number by which a memory of this layout begins.
     pub const FORMAT: u64 = 1;
+    // How many numbers the header has.
+    const HEADER: usize = 8;
 
     // How many numbers memory has.
     pub fn size(&self) -> usize
         ensures { result ≡ needed (sizes self.now) }
     {
-        13 + 2 * self.kept + 42 * self.waiting + 36 * (self.clients * self.waiting)
+        numbers_for(self.clients, self.kept, self.waiting)
     }
 
-    // Where a region lies.
-    pub fn span(&self, region: Region) -> Span
+    // Where a region lies: each begins where the one before it ends.
+    pub fn span(&self, region: Region) -> Range<usize>
         ensures { Spans (sizes self.now) region result }
     {
-        let behind_past = 9 + 2 * self.kept;
-        let w = self.waiting;
+        let past = Self::HEADER + 1 + 2 * self.kept;
+        let queue = past + 1 + 3 * self.waiting;
+        let active = queue + 1 + 3 * self.waiting;
+        let ahead = active + 1 + 16 * self.waiting;
+        let own = ahead + 1 + 18 * self.waiting;
+        let marks = own + 2 * self.waiting;
         match region {
-            Region::Past => Span {
-                start: 8,
-                end: behind_past,
-            },
-            Region::Queue => Span {
-                start: behind_past,
-                end: behind_past + 1 + 3 * w,
-            },
-            Region::Active => Span {
-                start: behind_past + 1 + 3 * w,
-                end: behind_past + 2 + 6 * w,
-            },
-            Region::Ahead => Span {
-                start: behind_past + 2 + 6 * w,
-                end: behind_past + 3 + 22 * w,
-            },
-            Region::Own => Span {
-                start: behind_past + 3 + 22 * w,
-                end: behind_past + 4 + 40 * w,
-            },
-            Region::Marks => Span {
-                start: behind_past + 4 + 40 * w,
-                end: behind_past + 4 + 42 * w,
-            },
-            Region::Cells => Span {
-                start: behind_past + 4 + 42 * w,
-                end: behind_past + 4 + 42 * w + 36 * (self.clients * w),
-            },
+            Region::Past => Self::HEADER..past,
+            Region::Queue => past..queue,
+            Region::Active => queue..active,
+            Region::Ahead => active..ahead,
+            Region::Own => ahead..own,
+            Region::Marks => own..marks,
+            Region::Cells => marks..marks + 36 * (self.clients * self.waiting),
         }
     }
 
-    // The layout of these sizes, if a client may be opened with them.
-    fn from_sizes(clients: u64, me: u64, kept: u64, waiting: u64) -> Option<Layout>
-        ensures { MatchOption result (good_sizes (made_of clients me kept waiting) ≡ false) (λ l. (good_sizes (made_of clients me kept waiting) ≡ true) × (sizes l ≡ made_of clients me kept waiting)) }
+    // Whether the list in a region says that it has no more entries than there is room for.
+    fn count_fits(&self, memory: &[u64], region: Region, room: usize) -> bool
+        requires long { needed (sizes self.now) ≤ length memory.now }
+        requires some { 1 ≤ size_of (sizes self.now) region }
+        ensures { result ≡ nat_le (slice_index memory.now (start_of (sizes self.now) region)) room }
     {
-        if clients < 1 || clients > 64 || me >= clients {
-            return None;
-        }
-        if kept < 1 || kept > 4096 {
-            return None;
-        }
-        if waiting < 1 || waiting > 64 {
-            return None;
-        }
-        Some(Layout {
-            clients: clients as usize,
-            me: me as usize,
-            kept: kept as usize,
-            waiting: waiting as usize,
-        })
+        memory[self.span(region).start] <= room as u64
     }
 
     // Whether no list says that it has more entries than there is room for.
@@ -81,21 +92,15 @@ impl Layout {
         requires { needed (sizes self.now) ≤ length memory.now }
         ensures { result ≡ counts_fit (sizes self.now) memory.now }
     {
-        let kept = self.kept as u64;
-        let waiting = self.waiting as u64;
-        let past = memory[self.span(Region::Past).start];
-        let queue = memory[self.span(Region::Queue).start];
-        let active = memory[self.span(Region::Active).start];
-        let ahead = memory[self.span(Region::Ahead).start];
-        let own = memory[self.span(Region::Own).start];
-        ((past <= kept) & (queue <= waiting))
-            & ((active <= waiting) & (ahead <= waiting))
-            & (own <= waiting)
+        self.count_fits(memory, Region::Past, self.kept)
+            && [Region::Queue, Region::Active, Region::Ahead, Region::Own]
+                .iter()
+                .all(|region| self.count_fits(memory, *region, self.waiting))
     }
 
     // The layout that a memory's header gives, if that may be a client's: tested against the length and the counts, in constant time.
     pub fn of(memory: &[u64]) -> Option<Layout>
-        ensures { MatchOption result (plausible memory.now ≡ false) (λ l. (plausible memory.now ≡ true) × (sizes l ≡ sizes_in memory.now)) }
+        ensures { MatchOption result (plausible memory.now ≡ false) (λ l. Front memory.now l) }
     {
         let [format, clients, me, kept, waiting, ..] = memory else {
             return None;
@@ -103,13 +108,14 @@ impl Layout {
         if *format != Self::FORMAT {
             return None;
         }
-        let Some(layout) = Layout::from_sizes(*clients, *me, *kept, *waiting) else {
-            return None;
+        let limits = Limits {
+            clients: u16::try_from(*clients).ok()?,
+            me: u16::try_from(*me).ok()?,
+            kept: u16::try_from(*kept).ok()?,
+            waiting: u8::try_from(*waiting).ok()?,
         };
-        if memory.len() < layout.size() {
-            return None;
-        }
-        if !layout.counts_fit(memory) {
+        let layout = Layout::try_from(&limits).ok()?;
+        if memory.len() < layout.size() || !layout.counts_fit(memory) {
             return None;
         }
         Some(layout)

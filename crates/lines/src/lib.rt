@@ -5,6 +5,7 @@ pub mod errors;
 mod parsing;
 pub mod reading;
 pub mod request_bytes;
+mod words;
 
 pub use errors::{Expected, LineError};
 pub use reading::{read_limits, read_request};

@@ -1,57 +1,75 @@
 // Requests and limits read from lines.
-ghost use Rattle.std.specs.Prelude.{◌≡◌, ℕ, Bool, IfOk};
+ghost use Rattle.std.specs.Prelude.{◌≡◌, ℕ, Bool, IfOk, IfSome};
 ghost use Rattle.protocol.specs.Meaning.{limits_of};
+ghost use Rattle.protocol.specs.Text.{limits_text};
 ghost use Rattle.text.specs.Meaning.{request_of};
-ghost use Rattle.text.specs.Text.{request_text, limits_text};
+ghost use Rattle.text.specs.Text.{request_text};
 
 use crate::errors::{Expected, LineError};
-use crate::parsing::{named_number, parse_data, parse_duty, parse_number, parse_share};
+use crate::parsing::{parse_data, parse_duty, parse_share};
+use crate::words::Words;
 use protocol::Limits;
 use std::alloc::Global;
-use text::{Request, limits_text, request_text};
+use std::fmt::Display;
+use text::Request;
 use wire::Data;
 
 // The request that a line is: a line is taken only as it is printed.
+// Stays: a function and no `FromStr`, since the type is another crate's and reading it needs the heap.
 pub fn read_request(heap: Global, line: &str) -> Result<Request, LineError>
     ensures { IfOk result (λ q. line.now ≡ request_text (request_of q)) }
 {
-    let request = parse(heap, line)?;
-    let text = request_text(heap, &request)?;
+    as_printed(heap, parse(heap, line)?, line)
+}
+
+// The limits that a first line is: a line is taken only as it is printed.
+// Stays: a function and no `FromStr`, since the type is another crate's and its error's text needs the heap.
+#[tactic(auto, unfolding(protocol::specs::Text::limits_text))]
+pub fn read_limits(heap: Global, line: &str) -> Result<Limits, LineError>
+    ensures { IfOk result (λ l. (can : ℕ → Bool) → line.now ≡ limits_text (limits_of can l)) }
+{
+    as_printed(heap, parse_limits(line)?, line)
+}
+
+// A value, if a line is just what is printed of it.
+fn as_printed<T: Display + Drop>(heap: Global, value: T, line: &str) -> Result<T, LineError>
+    ensures { IfOk result (λ v. IfSome (T.output v) (λ text. line.now ≡ text)) }
+{
+    let text = format!(in heap; "{value}")?;
     if text.as_str() != line {
         return Err(LineError::Spelling(text));
     }
-    Ok(request)
+    Ok(value)
 }
 
 // What a line may be taken for.
 fn parse(heap: Global, line: &str) -> Result<Request, LineError> {
-    let (word, rest) = line.split_once(" ").unwrap_or((line, ""));
-    match word {
-        "duty" => Ok(Request::OnDuty(parse_duty(rest)?)),
-        "decided" => {
-            let (slot, what) = parse_decision(rest)?;
-            Ok(Request::Decided(slot, what))
-        }
-        "share" => Ok(Request::ShareCame(parse_share(rest)?)),
-        "block" => Ok(Request::Block(Vec::new(heap))),
-        "block:" => Ok(Request::Block(parse_listed(heap, rest)?)),
-        "resend" => Ok(Request::Resend),
-        "may" => {
-            let (slot, what) = parse_decision(rest)?;
-            Ok(Request::May(slot, what))
-        }
-        "past" => Ok(Request::Past),
-        "bytes" => Ok(Request::Bytes(parse_bytes(heap, rest)?)),
-        _ => Err(LineError::Expected(Expected::Word)),
-    }
+    let mut words = Words::of(line, Expected::Word);
+    let word = words.word();
+    let rest = words.rest;
+    Ok(match word {
+        "duty" => Request::OnDuty(parse_duty(rest)?),
+        "decided" => parse_decision(rest, Request::Decided)?,
+        "share" => Request::ShareCame(parse_share(rest)?),
+        "block" => Request::Block(Vec::new(heap)),
+        "block:" => Request::Block(parse_listed(heap, rest)?),
+        "resend" => Request::Resend,
+        "may" => parse_decision(rest, Request::May)?,
+        "past" => Request::Past,
+        "bytes" => Request::Bytes(parse_bytes(heap, rest)?),
+        _ => return Err(LineError::Expected(Expected::Word)),
+    })
 }
 
-// A slot and data.
-fn parse_decision(text: &str) -> Result<(u64, Data), Expected> {
-    let Some((slot, what)) = text.split_once(": ") else {
-        return Err(Expected::Decision);
-    };
-    Ok((parse_number(slot)?, parse_data(what)?))
+// A request of a slot and data.
+fn parse_decision<F: FnOnce(u64, Data) -> Request>(
+    text: &str,
+    request: F,
+) -> Result<Request, Expected>
+    requires { F.IsAlwaysCallable request }
+{
+    let (slot, what) = text.split_once(": ").ok_or(Expected::Decision)?;
+    Ok(request(slot.parse::<u64>()?, parse_data(what)?))
 }
 
 // The data that a block lists.
@@ -65,13 +83,11 @@ fn parse_listed(heap: Global, text: &str) -> Result<Vec<Data>, LineError> {
 
 // What a hexadecimal digit is worth.
 fn digit_value(digit: u8) -> Result<u8, Expected> {
-    if digit >= b'0' && digit <= b'9' {
-        return Ok(digit - b'0');
+    match digit {
+        b'0'..=b'9' => Ok(digit - b'0'),
+        b'a'..=b'f' => Ok(digit - b'a' + 10),
+        _ => Err(Expected::Bytes),
     }
-    if digit >= b'a' && digit <= b'f' {
-        return Ok(digit - b'a' + 10);
-    }
-    Err(Expected::Bytes)
 }
 
 // A byte of two digits.
@@ -79,46 +95,29 @@ fn parse_byte(pair: &[u8]) -> Result<u8, Expected> {
     let [high, low] = pair else {
         return Err(Expected::Bytes);
     };
-    let high = digit_value(*high)?;
-    let low = digit_value(*low)?;
-    Ok((high << 4) | low)
+    Ok((digit_value(*high)? << 4) | digit_value(*low)?)
 }
 
 // Bytes of two digits each.
 fn parse_bytes(heap: Global, text: &str) -> Result<Vec<u8>, LineError> {
     let mut bytes = Vec::new(heap);
     for pair in text.as_bytes().chunks(2) {
-        let byte = parse_byte(pair)?;
-        bytes.push(byte)?;
+        bytes.push(parse_byte(pair)?)?;
     }
     Ok(bytes)
 }
 
-// The limits that a first line is: a line is taken only as it is printed.
-pub fn read_limits(heap: Global, line: &str) -> Result<Limits, LineError>
-    ensures { IfOk result (λ l. (can : ℕ → Bool) → line.now ≡ limits_text (limits_of can l)) }
-{
-    let limits = parse_limits(line)?;
-    let printed = limits_text(heap, &limits)?;
-    if printed.as_str() != line {
-        return Err(LineError::Spelling(printed));
-    }
-    Ok(limits)
-}
-
 // What a first line may be taken for.
 fn parse_limits(line: &str) -> Result<Limits, Expected> {
-    let (clients, rest) = named_number(line, Expected::Limits)?;
-    let (me, rest) = named_number(rest, Expected::Limits)?;
-    let (kept, rest) = named_number(rest, Expected::Limits)?;
-    let (waiting, _) = named_number(rest, Expected::Limits)?;
-    if clients.max(me).max(kept) > 65535 || waiting > 255 {
-        return Err(Expected::Number);
-    }
+    let mut words = Words::of(line, Expected::Limits);
+    let clients = words.named_number()?;
+    let me = words.named_number()?;
+    let kept = words.named_number()?;
+    let waiting = words.named_number()?;
     Ok(Limits {
-        clients: clients as u16,
-        me: me as u16,
-        kept: kept as u16,
-        waiting: waiting as u8,
+        clients: u16::try_from(clients)?,
+        me: u16::try_from(me)?,
+        kept: u16::try_from(kept)?,
+        waiting: u8::try_from(waiting)?,
     })
 }

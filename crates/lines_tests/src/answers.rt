@@ -1,22 +1,13 @@
 // Answers and the past.
-use events::{Answer, NotWritten, Row, read_answer, write_done};
+use events::{Answer, Deeds, NotWritten, Row, Rows, read_answer, write_done};
 use std::test::Fail;
 use text::{answer_text, past_text};
-use wire::{Data, Duty, Root, Share};
+use wire::{Data, Duty, Entry, Root, Share};
 
 const NONE: Row = Row {
     count: 0,
     bytes: &[],
 };
-
-fn root(first: u64) -> Root {
-    Root {
-        first,
-        second: 0,
-        third: 0,
-        fourth: 0,
-    }
-}
 
 fn share() -> Share {
     Share {
@@ -24,11 +15,14 @@ fn share() -> Share {
         what: Data {
             slot: 5,
             committee: 0,
-            block: root(9),
+            block: Root {
+                first: 9,
+                ..Root::ZERO
+            },
             source: 0,
-            source_root: root(0),
+            source_root: Root::ZERO,
             target: 1,
-            target_root: root(0),
+            target_root: Root::ZERO,
         },
         seat: 1,
     }
@@ -41,7 +35,13 @@ fn refusals_and_nothing(rt: HostRuntime) -> Result<(), Fail> {
     assert_eq!(rt; text.as_str(), "refused 3 at 0");
     let text = answer_text(heap, &Answer::Refused(1, 18446744073709551615))?;
     assert_eq!(rt; text.as_str(), "refused 1 at 18446744073709551615");
-    let text = answer_text(heap, &Answer::Done(NONE, NONE, NONE, NONE))?;
+    let nothing = Rows {
+        sent: NONE,
+        handed_in: NONE,
+        begun: NONE,
+        ended: NONE,
+    };
+    let text = answer_text(heap, &Answer::Done(nothing))?;
     assert_eq!(rt; text.as_str(), "nothing");
     Ok(())
 }
@@ -59,13 +59,13 @@ fn everything() -> Result<[u8; 326], NotWritten> {
         seat: 0,
     };
     let mut bytes = [0u8; 326];
-    write_done(
-        &mut bytes,
-        &[share()],
-        &[share().what],
-        &[first, second],
-        &[7],
-    )?;
+    let deeds = Deeds {
+        sent: &[share()],
+        handed_in: &[share().what],
+        begun: &[first, second],
+        ended: &[7],
+    };
+    write_done(&mut bytes, &deeds)?;
     Ok(bytes)
 }
 
@@ -83,7 +83,13 @@ fn what_is_done_stands_in_the_order_of_the_rows(rt: HostRuntime) -> Result<(), F
         count: 2,
         bytes: &bytes[318..],
     };
-    assert!(rt; answer_text(heap, &Answer::Done(cut, cut, cut, cut)).is_err());
+    let rows = Rows {
+        sent: cut,
+        handed_in: cut,
+        begun: cut,
+        ended: cut,
+    };
+    assert!(rt; answer_text(heap, &Answer::Done(rows)).is_err());
     Ok(())
 }
 
@@ -92,7 +98,17 @@ fn the_past_goes_from_the_least_target_on(rt: HostRuntime) -> Result<(), Fail> {
     let heap = rt.alloc();
     let text = past_text(heap, &[])?;
     assert_eq!(rt; text.as_str(), "past");
-    let text = past_text(heap, &[(2, 4), (1, 3)])?;
+    let past = [
+        Entry {
+            source: 2,
+            target: 4,
+        },
+        Entry {
+            source: 1,
+            target: 3,
+        },
+    ];
+    let text = past_text(heap, &past)?;
     assert_eq!(rt; text.as_str(), "past 1 3, 2 4");
     Ok(())
 }

@@ -2,13 +2,16 @@
 use lines::{LineError, event_bytes, read_limits, read_request};
 use std::alloc::{AllocError, Global};
 use std::test::Fail;
-use text::{Request, limits_text, may_text, request_text};
+use text::{Request, may_text};
 
 // The bytes of what a line asks, as a line, or `none` for a question.
 fn bytes_line(heap: Global, line: &str) -> Result<String, LineError> {
     let request = read_request(heap, line)?;
     match event_bytes(heap, &request)? {
-        Some(bytes) => Ok(request_text(heap, &Request::Bytes(bytes))?),
+        Some(bytes) => {
+            let asked = Request::Bytes(bytes);
+            Ok(format!(in heap; "{asked}")?)
+        }
         None => Ok(format!(in heap; "none")?),
     }
 }
@@ -310,7 +313,7 @@ fn limits_are_read(rt: HostRuntime) -> Result<(), Fail> {
         "clients 65535 me 65535 kept 65535 waiting 255",
     ] {
         let limits = read_limits(heap, line)?;
-        let text = limits_text(heap, &limits)?;
+        let text = format!(in heap; "{limits}")?;
         assert_eq!(rt; text.as_str(), line);
     }
     let limits = read_limits(heap, "clients 4 me 2 kept 5 waiting 3")?;

@@ -1,3 +1,4 @@
 mod Room
 mod Finding
+mod Reading
 pub mod Regions

@@ -5,7 +5,7 @@ use lib.Seq.{take-append-add}
 use Rattle.std.proofs.lemmas.List.{drop_all, take_all}
 use Rattle.std.proofs.lemmas.List.Edits.{length-insert, length-remove}
 use Rattle.rows.specs.Rows.{Wide, rows, laid, inserted, removed, kept, put_cells, cut_cells, kept_cells}
-use Rattle.rows.proofs.Inserted.{take_inserted, take_inserted_none}
+use Rattle.rows.proofs.Inserted.{take_inserted}
 use Rattle.rows.proofs.Laws.{rows_at}
 use Rattle.rows.proofs.Laid.{regions_stay_laid, rows_laid}
 use Rattle.lists.specs.Lists.{counted, Region}
@@ -54,10 +54,6 @@ inserts w n m k c row xs part rs r h room long size same least cells =
     ∙ regions_stay_laid.put w n m c rs row r.wide long (omega arith) (omega arith) (omega arith) (omega arith) few
     ∙ ap (laid w n) (sym more) in
     rewritten w n (c + 1) k rs ss xs part r.is size same after (sym many)
-
--- no room, and the place is behind all that stay
-pub inserts_none : (w n m : ℕ) (row xs : List ℕ) (rs : List (List ℕ)) → Region w n rs xs → m ≤ length rs → n ≤ m → xs ≡ counted w n (take n (inserted rs m row))
-inserts_none w n m row xs rs r h full = r.is ∙ ap (counted w n) (sym (take_inserted_none n m row rs r.few h full))
 
 -- an entry cut out
 pub removes : (w n m k j : ℕ) (xs part : List ℕ) (rs : List (List ℕ)) → Region w n rs xs → m < length rs → k ≡ length xs - 1 → length part ≡ length (take k (drop 1 xs)) → j ≡ length rs → part ≡ cut_cells (w * m) (w * j) w (take k (drop 1 xs)) → set (put_mid 1 k xs part) 0 (j - 1) ≡ counted w n (removed rs m)

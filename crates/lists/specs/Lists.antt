@@ -1,6 +1,6 @@
 -- Lists of entries in a region of numbers: how many there are, and then the entries, zeros behind them.
 -- Assumes nothing: these are definitions.
-use Rattle.std.specs.Prelude.{◌≡◌, ℕ, suc, ◌≤◌, Bool, cond, List, [], ◌∷◌, length, take, drop, Some, None, Option, slice_set}
+use Rattle.std.specs.Prelude.{◌≡◌, ℕ, suc, ◌≤◌, Bool, cond, ltb, List, [], ◌∷◌, length, take, drop, Some, None, Option, slice_set}
 use Rattle.std.specs.Borrow.{Bor}
 use Rattle.rows.specs.Rows.{Wide, laid, inserted, removed, kept}
 
@@ -12,6 +12,10 @@ counted w n rs = length rs ∷ laid w n rs
 unfoldable pub first_passing : {X : Type 0} → (X → Bool) → List X → ℕ
 first_passing test [] = 0
 first_passing test (x ∷ xs) = cond (test x) 0 (suc (first_passing test xs))
+
+-- that place, if it is one of the list's
+abbrev pub place_in : {X : Type 0} → List X → ℕ → Option ℕ
+place_in xs m = cond (ltb m (length xs)) (Some m) None
 
 -- such a region, before something is done with it
 pub record Region (w n : ℕ) (rs : List (List ℕ)) (xs : List ℕ) : Type 0 where

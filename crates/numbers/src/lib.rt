@@ -1,7 +1,8 @@
-// Values as rows of numbers, as a client's memory holds them: three numbers for a duty, sixteen for data, eighteen for a share.
+// Values as rows of numbers, as a client's memory holds them: four numbers for a root, two for an entry of the past, three for a duty, sixteen for data, eighteen for a share.
 #![tactic(auto)]
 
-mod roots;
+mod in_numbers;
 mod values;
 
-pub use values::{data_at, data_numbers, duty_at, duty_numbers, share_at, share_numbers};
+pub use in_numbers::InNumbers;
+pub use values::share_numbers;

@@ -1,29 +1,36 @@
 -- Laws of `entries`: how many there are, the one at a place, and that they are read back from their cells.
-use Rattle.std.proofs.Common.{◌≡◌, ℕ, zero, suc, ◌+◌, ◌-◌, ◌*◌, ◌<◌, ◌≤◌, List, [], ◌∷◌, map, length, get_or, take, drop, sym, refl, ap, ◌∙◌, ap₂, add-zero, add-one, arith, get_or-drop, get_or-take}
+use Rattle.std.proofs.Common.{◌≡◌, ℕ, zero, suc, ◌+◌, ◌-◌, ◌*◌, ◌/◌, ◌<◌, ◌≤◌, List, [], ◌∷◌, map, length, get_or, take, drop, sym, refl, ap, ◌∙◌, ap₂, add-one, arith, drop-cons, length-take, take-take}
 use Rattle.std.proofs.lemmas.List.{length-map, take-map, drop-map}
-use Rattle.protocol.specs.Data.{Past, first_of}
+use Rattle.std.proofs.Math.Nat.{mul-div_left}
+use Rattle.std.specs.Simd.{first_chunks}
+use Rattle.protocol.specs.Data.{first_of}
 use Rattle.rows.specs.Rows.{Wide, rows, flat, laid}
-use Rattle.rows.proofs.Laws.{wide_rows, rows_length, rows_at, rows_take, flat_rows}
-use Rattle.past.specs.Past.{entry, entry_of, row_of, entries, cells_of, encoded}
+use Rattle.rows.proofs.Laws.{chunks_are, rows_same, wide_rows, rows_length, rows_take, flat_rows}
+use Rattle.past.specs.Past.{entry_of, row_of, entries, cells_of, encoded}
 
 pub entries_length : (n : ℕ) (xs : List ℕ) → length (entries n xs) ≡ n
 unfolding entries
 entries_length n xs = length-map (rows 2 n xs) entry_of ∙ rows_length 2 n xs
 
--- the entry at a place of the region
-abbrev pub at_place : List ℕ → ℕ → Past
-at_place xs i = entry (get_or xs (2 * i) 0) (get_or xs (2 * i + 1) 0)
+-- the entry at a place, and those behind it
+pub drop_entries : (rs : List (List ℕ)) (i : ℕ) (d : List ℕ) → i < length rs → drop i (map entry_of rs) ≡ entry_of (get_or rs i d) ∷ drop (i + 1) (map entry_of rs)
+drop_entries rs i d h =
+    drop-map entry_of i rs
+    ∙ ap (map entry_of) (drop-cons rs i d h)
+    ∙ ap (λ t. entry_of (get_or rs i d) ∷ t) (sym (drop-map entry_of (suc i) rs) ∙ ap (λ k. drop k (map entry_of rs)) (sym (add-one i)))
 
-pub entries_at : (n i : ℕ) (xs : List ℕ) → i < n → drop i (entries n xs) ≡ at_place xs i ∷ drop (i + 1) (entries n xs)
+-- the arrays of the part that holds n entries
+pub pairs_are : (n : ℕ) (xs : List ℕ) (rs : List (List ℕ)) → rs ≡ first_chunks 2 (length (take (2 * n) xs) / 2) (take (2 * n) xs) → 2 * n ≤ length xs → map entry_of rs ≡ entries n xs
 unfolding entries
-entries_at n i xs h =
-    let row : List ℕ = take 2 (drop (2 * i) xs) in
-    let source : get_or row 0 0 ≡ get_or xs (2 * i) 0 =
-    get_or-take 2 (drop (2 * i) xs) 0 0 (omega arith) ∙ get_or-drop (2 * i) xs 0 0 ∙ ap (λ k. get_or xs k 0) (add-zero (2 * i)) in
-    let target : get_or row 1 0 ≡ get_or xs (2 * i + 1) 0 = get_or-take 2 (drop (2 * i) xs) 1 0 (omega arith) ∙ get_or-drop (2 * i) xs 1 0 in
-    drop-map entry_of i (rows 2 n xs)
-    ∙ ap (map entry_of) (rows_at 2 n i xs h)
-    ∙ ap₂ ◌∷◌ (ap₂ entry source target) (sym (drop-map entry_of (suc i) (rows 2 n xs)) ∙ ap (λ k. drop k (map entry_of (rows 2 n xs))) (sym (add-one i)))
+pairs_are n xs rs e h =
+    let part : List ℕ = take (2 * n) xs in
+    let long : length part ≡ n * 2 = simp length-take (omega arith) in
+    let many : length part / 2 ≡ n = ap (λ j. j / 2) long ∙ mul-div_left n (omega arith) in
+    ap (map entry_of)
+    (e
+    ∙ ap (λ j. first_chunks 2 j part) many
+    ∙ chunks_are 2 n part
+    ∙ rows_same 2 n part xs (take-take (2 * n) (2 * n) xs (omega arith)))
 
 -- the first m of more entries
 pub entries_take : (m n : ℕ) (xs : List ℕ) → m ≤ n → take m (entries n xs) ≡ entries m xs

@@ -1,12 +1,12 @@
 -- The loop of `place_for`, and where one entry more goes: the entries before the place have larger targets.
-use Rattle.std.proofs.Common.{◌≡◌, ℕ, ◌+◌, ◌-◌, ◌*◌, ◌<◌, ◌≤◌, min, List, [], ◌∷◌, ◌++◌, length, get_or, take, drop, sym, ap, ◌∙◌, append_assoc, arith, take-append-drop}
-use Rattle.std.proofs.lemmas.List.{take_more, drop_more, take_all, drop_all}
+use Rattle.std.proofs.Common.{◌≡◌, ℕ, ◌+◌, ◌-◌, ◌<◌, ◌≤◌, min, List, [], ◌∷◌, ◌++◌, map, length, get_or, slice_index, take, drop, sym, ap, ◌∙◌, append_assoc, arith, take-append-drop}
+use Rattle.std.proofs.lemmas.List.{length-map, take_more, drop_more, take_all, drop_all}
 use Rattle.std.proofs.lemmas.Bool.{eq-eqb, ne_eqb, lt-ltb, le-ltb}
 use Rattle.protocol.specs.Data.{pick, Past, into, first_of, keep}
 use Rattle.rows.specs.Rows.{inserted}
 use Rattle.rows.proofs.Inserted.{take_inserted, take_inserted_none}
-use Rattle.past.specs.Past.{entries}
-use Rattle.past.proofs.Laws.{entries_length, entries_at, entries_take, at_place, first_of_is}
+use Rattle.past.specs.Past.{entry_of, entries}
+use Rattle.past.proofs.Laws.{entries_length, drop_entries, entries_take, first_of_is}
 
 -- one entry at the head: the same target, a smaller one, a larger one
 into_there : (p x : Past) (xs : List Past) → x.to ≡ p.to → into p (x ∷ xs) ≡ x ∷ xs
@@ -25,21 +25,24 @@ into_behind p x xs h = rw (ne_eqb p.to x.to (omega arith), le-ltb x.to p.to (ome
 abbrev pub Passed : Past → List Past → ℕ → Type 0
 Passed p ps i = into p ps ≡ take i ps ++ into p (drop i ps)
 
-module _ (p : Past) (n i : ℕ) (xs : List ℕ) (h : i < n) (passed : Passed p (entries n xs) i) where
+module _ (p : Past) (rs : List (List ℕ)) (i : ℕ) (d : List ℕ) (h : i < length rs) (passed : Passed p (map entry_of rs) i) where
   ps : List Past
-  ps = entries n xs
+  ps = map entry_of rs
 
   x : Past
-  x = at_place xs i
+  x = entry_of (get_or rs i d)
 
-  pub passes_more : p.to < get_or xs (2 * i + 1) 0 → Passed p (entries n xs) (i + 1)
+  here : drop i (map entry_of rs) ≡ entry_of (get_or rs i d) ∷ drop (i + 1) (map entry_of rs)
+  here = drop_entries rs i d h
+
+  pub passes_more : p.to < slice_index (get_or rs i d) 1 → Passed p (map entry_of rs) (i + 1)
   unfolding ps x
   passes_more lt =
-      let long : i < length ps = omega (arith, entries_length n xs) in
-      let here : drop i ps ≡ x ∷ drop (i + 1) ps = entries_at n i xs h in
+      let long : i < length ps = omega (arith, length-map rs entry_of) in
       let front : take (i + 1) ps ≡ take i ps ++ x ∷ [] =
       let a = take_more ps i x long in
       let b = drop_more ps i x long in
+      let e = here in
       cc in
       passed
       ∙ ap (λ t. take i ps ++ into p t) here
@@ -47,25 +50,24 @@ module _ (p : Past) (n i : ℕ) (xs : List ℕ) (h : i < n) (passed : Passed p (
       ∙ sym (append_assoc (take i ps) (x ∷ []) (into p (drop (i + 1) ps)))
       ∙ ap (λ t. t ++ into p (drop (i + 1) ps)) (sym front)
 
-  pub stops_there : get_or xs (2 * i + 1) 0 ≡ p.to → into p (entries n xs) ≡ entries n xs
+  pub stops_there : slice_index (get_or rs i d) 1 ≡ p.to → into p (map entry_of rs) ≡ map entry_of rs
   unfolding ps x
   stops_there e =
-      let here : drop i ps ≡ x ∷ drop (i + 1) ps = entries_at n i xs h in
       passed
       ∙ ap (λ t. take i ps ++ t) (ap (into p) here ∙ into_there p x (drop (i + 1) ps) e ∙ sym here)
       ∙ take-append-drop i ps
 
-  pub stops_here : get_or xs (2 * i + 1) 0 < p.to → into p (entries n xs) ≡ inserted (entries n xs) i p
+  pub stops_here : slice_index (get_or rs i d) 1 < p.to → into p (map entry_of rs) ≡ inserted (map entry_of rs) i p
   unfolding ps x
   stops_here lt =
-      let here : drop i ps ≡ x ∷ drop (i + 1) ps = entries_at n i xs h in
       passed ∙ ap (λ t. take i ps ++ t) (ap (into p) here ∙ into_here p x (drop (i + 1) ps) lt ∙ ap (λ t. p ∷ t) (sym here))
 
-pub stops_last : (p : Past) (n : ℕ) (xs : List ℕ) → Passed p (entries n xs) n → into p (entries n xs) ≡ inserted (entries n xs) n p
+pub stops_last : (p : Past) (rs : List (List ℕ)) → Passed p (map entry_of rs) (length rs) → into p (map entry_of rs) ≡ inserted (map entry_of rs) (length rs) p
 unfolding into
-stops_last p n xs passed =
-    let none : drop n (entries n xs) ≡ [] = drop_all n (entries n xs) (omega (arith, entries_length n xs)) in
-    passed ∙ ap (λ t. take n (entries n xs) ++ t) (ap (into p) none ∙ ap (λ t. p ∷ t) (sym none))
+stops_last p rs passed =
+    let i : ℕ = length rs in
+    let none : drop i (map entry_of rs) ≡ [] = drop_all i (map entry_of rs) (omega (arith, length-map rs entry_of)) in
+    passed ∙ ap (λ t. take i (map entry_of rs) ++ t) (ap (into p) none ∙ ap (λ t. p ∷ t) (sym none))
 
 pub keep_same : (most n : ℕ) (p : Past) (xs : List ℕ) → n ≤ most → into p (entries n xs) ≡ entries n xs → keep most p (entries n xs) ≡ entries n xs
 keep_same most n p xs h e =

@@ -3,14 +3,10 @@
 use Rattle.std.specs.Prelude.{◌≡◌, ℕ, ◌*◌, ◌≤◌, List, [], ◌∷◌, ◌++◌, map, length, drop, Some, None, Option, slice_index}
 use Rattle.protocol.specs.Data.{Past, keep}
 use Rattle.rows.specs.Rows.{rows, flat, laid, inserted}
-use Rattle.past.specs.declared.entry.Entry.{Entry}
 
--- an entry of the past by its source and target, and of the code
+-- an entry of the past by its source and target
 abbrev pub entry : ℕ → ℕ → Past
 entry source target = record { from = source; to = target }
-
-abbrev pub meant : Entry → Past
-meant e = entry e.source e.target
 
 -- what two numbers stand for, and the two numbers of an entry
 abbrev pub entry_of : List ℕ → Past

@@ -1,33 +1,26 @@
-// An entry of the past.
-ghost use Rattle.std.specs.Prelude.{◌≡◌, ◌+◌, ◌*◌, ◌<◌, ◌≤◌, ◌||◌, length, slice_index};
+// An entry of the past as the two numbers that are kept of it, and beside another.
+ghost use Rattle.std.specs.Prelude.{◌≡◌, ◌||◌};
 ghost use Rattle.protocol.specs.Data.{clash};
-ghost use Rattle.past.specs.Past.{entry, meant};
+ghost use Rattle.wire.specs.Meaning.{entry_of as meant};
+ghost use Rattle.past.specs.Past.{entry_of};
 
-// The source and target epochs of what was signed or seen decided.
-#[derive(Clone, Copy)]
-pub struct Entry {
-    pub source: u64,
-    pub target: u64,
+use wire::Entry;
+
+// The entry that two numbers are.
+#[tactic(auto, unfolding(wire::specs::Meaning::entry_of))]
+pub(crate) fn read(row: &[u64; 2]) -> Entry
+    ensures { meant result ≡ entry_of row.now }
+{
+    let [source, target] = *row;
+    Entry { source, target }
 }
 
-impl Entry {
-    // The entry at a place of the region.
-    pub fn at(region: &[u64], place: usize) -> Entry
-        requires { 2 * place + 2 ≤ length region.now }
-        ensures { meant result ≡ entry (slice_index region.now (2 * place)) (slice_index region.now (2 * place + 1)) }
-    {
-        Entry {
-            source: region[2 * place],
-            target: region[2 * place + 1],
-        }
-    }
-
-    // Whether two entries have one target, or one lies around the other.
-    pub fn clashes(self, other: Entry) -> bool
-        ensures { result ≡ (clash (meant self) (meant other) || clash (meant other) (meant self)) }
-    {
-        let around = self.source < other.source && other.target < self.target;
-        let within = other.source < self.source && self.target < other.target;
-        self.target == other.target || around || within
-    }
+// Whether two entries have one target, or one lies around the other.
+#[tactic(auto, unfolding(wire::specs::Meaning::entry_of))]
+pub(crate) fn clashes(kept: Entry, new: Entry) -> bool
+    ensures { result ≡ (clash (meant kept) (meant new) || clash (meant new) (meant kept)) }
+{
+    let around = kept.source < new.source && new.target < kept.target;
+    let within = new.source < kept.source && kept.target < new.target;
+    kept.target == new.target || around || within
 }

@@ -6,5 +6,5 @@ mod entry;
 mod history;
 mod judging;
 
-pub use history::keep_one_more;
+pub use history::{keep_one_more, pairs};
 pub use judging::{is_unsafe, is_valid};

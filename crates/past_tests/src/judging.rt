@@ -1,32 +1,28 @@
 // What is unsafe for a past, and what is valid for a duty.
 use std::process::Abort;
-use wire::{Data, Duty, Root};
+use wire::{Data, Duty, Entry, Root};
 
 // The largest number.
 const TOP: u64 = 18446744073709551615;
 
 #[derive(Clone, Copy)]
 struct Example {
-    source: u64,
-    target: u64,
+    entry: Entry,
     is_unsafe: bool,
 }
 
 fn judged(source: u64, target: u64, is_unsafe: bool) -> Example {
     Example {
-        source,
-        target,
+        entry: Entry { source, target },
         is_unsafe,
     }
 }
 
 fn holds(rt: &impl Abort, region: &[u64], count: usize, examples: &[Example]) {
     assert!(rt; count <= region.len() / 2);
+    let kept = past::pairs(region, count);
     for e in examples {
-        assert_eq!(rt;
-            past::is_unsafe(region, count, e.source, e.target),
-            e.is_unsafe
-        );
+        assert_eq!(rt; past::is_unsafe(kept, e.entry), e.is_unsafe);
     }
 }
 
@@ -116,8 +112,8 @@ fn is_valid_for_a_duty(rt: HostRuntime) {
         committee: 2,
         seat: 1,
     };
-    let past = [4u64, 5];
-    assert!(rt; past::is_valid(&past, 1, &attestation(7, 2, 5, 6), &duty));
+    let past = [[4u64, 5]];
+    assert!(rt; past::is_valid(&past, &attestation(7, 2, 5, 6), &duty));
     // another slot, another committee, a source at or after its target, unsafe
     let bad = [
         attestation(8, 2, 5, 6),
@@ -128,8 +124,8 @@ fn is_valid_for_a_duty(rt: HostRuntime) {
         attestation(7, 2, 3, 6),
     ];
     for data in &bad {
-        assert!(rt; !past::is_valid(&past, 1, data, &duty));
+        assert!(rt; !past::is_valid(&past, data, &duty));
     }
     // unsafe with that past, and not with none
-    assert!(rt; past::is_valid(&past, 0, &attestation(7, 2, 3, 6), &duty));
+    assert!(rt; past::is_valid(&[], &attestation(7, 2, 3, 6), &duty));
 }

@@ -1,5 +1,6 @@
 // One entry more: what stands before it, what comes, and what stands after it. Of eight numbers the region has two for each that may be kept; the rest stays as it is.
 use std::process::Abort;
+use wire::Entry;
 
 // The largest number.
 const TOP: u64 = 18446744073709551615;
@@ -9,8 +10,7 @@ struct Example {
     before: [u64; 8],
     count: usize,
     most: usize,
-    source: u64,
-    target: u64,
+    entry: Entry,
     after: [u64; 8],
     result: usize,
 }
@@ -18,13 +18,7 @@ struct Example {
 fn holds(rt: &impl Abort, example: &Example) {
     let mut region = example.before;
     assert!(rt; example.count <= example.most && example.most <= 4);
-    let result = past::keep_one_more(
-        &mut region,
-        example.count,
-        example.most,
-        example.source,
-        example.target,
-    );
+    let result = past::keep_one_more(&mut region, example.count, example.most, example.entry);
     assert_eq!(rt; result, example.result);
     assert_eq!(rt; region, example.after);
 }
@@ -41,8 +35,7 @@ fn with_three(
         before,
         count,
         most: 3,
-        source,
-        target,
+        entry: Entry { source, target },
         after,
         result: kept,
     }
@@ -200,8 +193,10 @@ fn stays_full(rt: HostRuntime) {
             before: [9, 9, 7, 7, 5, 5, 3, 3],
             count: 4,
             most: 4,
-            source: 4,
-            target: 4,
+            entry: Entry {
+                source: 4,
+                target: 4,
+            },
             after: [9, 9, 7, 7, 5, 5, 4, 4],
             result: 4,
         },
@@ -209,8 +204,10 @@ fn stays_full(rt: HostRuntime) {
             before: [0, 1, 66, 77, 88, 99, 1, 2],
             count: 1,
             most: 1,
-            source: TOP,
-            target: TOP,
+            entry: Entry {
+                source: TOP,
+                target: TOP,
+            },
             after: [TOP, TOP, 66, 77, 88, 99, 1, 2],
             result: 1,
         },
@@ -218,8 +215,10 @@ fn stays_full(rt: HostRuntime) {
             before: [9, 8, 7, 6, 5, 4, 3, 2],
             count: 0,
             most: 0,
-            source: 1,
-            target: 2,
+            entry: Entry {
+                source: 1,
+                target: 2,
+            },
             after: [9, 8, 7, 6, 5, 4, 3, 2],
             result: 0,
         },

@@ -6,3 +6,4 @@ pub mod Refusals
 pub mod Runs
 pub mod Meaning
 pub mod Table
+pub mod Text

@@ -2,6 +2,7 @@
 // stand in specs/.
 #![tactic(auto)]
 
+pub mod printing;
 pub mod refusal;
 pub mod sizes;
 pub mod table;

@@ -22,11 +22,11 @@ pub enum Refusal {
     TwoForASlot = 7,
 }
 
-impl Refusal {
-    // The number by which an answer names it.
-    pub fn number(self) -> u8
-        ensures { result ≡ number_of (refusal_of self) }
-    {
-        self as u8
+// The number by which an answer names it.
+impl From<Refusal> for u8 {
+    ghost from_gives = { λ r n. n ≡ number_of (refusal_of r) };
+
+    fn from(refusal: Refusal) -> u8 {
+        refusal as u8
     }
 }

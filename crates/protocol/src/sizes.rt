@@ -21,11 +21,11 @@ impl GroupSize {
         self.clients.saturating_sub(1) / 3
     }
 
-    // How many shares make an attestation whole: two thirds of the clients, rounded up.
+    // How many shares make an attestation whole: two thirds of the clients, rounded up, which are all but a third of them, rounded down.
     pub fn quorum(self) -> u16
         ensures { result ≡ quorum_of self.clients }
     {
-        ((2 * self.clients as u32 + 2) / 3) as u16
+        self.clients - self.clients / 3
     }
 }
 
@@ -57,16 +57,16 @@ impl Limits {
     pub fn check(&self) -> Result<(), LimitsError>
         ensures { MatchResult result (λ _. (can : ℕ → Bool) → GoodLimits can (limits_of can self.now)) (λ e. FirstWrong self.now e) }
     {
-        if self.clients < 1 || self.clients > GroupSize::MOST_CLIENTS {
+        if !(1..=GroupSize::MOST_CLIENTS).contains(&self.clients) {
             return Err(LimitsError::Clients);
         }
         if self.me >= self.clients {
             return Err(LimitsError::Me);
         }
-        if self.kept < 1 || self.kept > Self::MOST_KEPT {
+        if !(1..=Self::MOST_KEPT).contains(&self.kept) {
             return Err(LimitsError::Kept);
         }
-        if self.waiting < 1 || self.waiting > Self::MOST_WAITING {
+        if !(1..=Self::MOST_WAITING).contains(&self.waiting) {
             return Err(LimitsError::Waiting);
         }
         Ok(())

@@ -2,8 +2,6 @@
 ghost use Rattle.protocol.specs.Table.{TableFollowed};
 
 // The definitions do what the worked table says.
-pub fn table_followed_holds() -> u8
+pub fn table_followed_holds()
     ensures { TableFollowed }
-{
-    0
-}
+{}

@@ -1,5 +1,6 @@
 -- Laws of `rows`, whatever the width: what the first of two counts have, what the rest has, and that only the cells of the entries matter.
 use Rattle.std.proofs.Common.{◌≡◌, ℕ, zero, suc, ◌+◌, ◌-◌, ◌*◌, ◌<◌, ◌≤◌, Bool, true, false, cond, List, [], ◌∷◌, ◌++◌, length, take, drop, replicate, sym, refl, ap, ◌∙◌, ap₂, append_assoc, suc-add, mul-zero, zero-add, mul-suc, mul-add, arith, length-append, length-drop, length-take, take-take, drop-drop, take_at, take-add, drop_at}
+use Rattle.std.specs.Simd.{first_chunks}
 use Rattle.std.proofs.lemmas.List.{drop-take}
 use Rattle.rows.specs.Rows.{Wide, rows, flat, kept, inserted, removed, put_cells, cut_cells}
 
@@ -14,6 +15,12 @@ rows_same w (suc n) xs ys e =
     ap₂ ◌∷◌
     (sym (take-take w (w + w * n) xs (omega arith)) ∙ ap (take w) both ∙ take-take w (w + w * n) ys (omega arith))
     (rows_same w n (drop w xs) (drop w ys) (sym (drop-take w (w * n) xs) ∙ ap (drop w) both ∙ drop-take w (w * n) ys))
+
+-- they are the arrays of as many numbers
+pub chunks_are : (w n : ℕ) (xs : List ℕ) → first_chunks w n xs ≡ rows w n xs
+unfolding rows
+chunks_are w zero xs = refl
+chunks_are w (suc n) xs = ap (λ t. take w xs ∷ t) (chunks_are w n (drop w xs))
 
 -- the first m of m + n entries, then the n that stand behind them
 pub rows_add : (w m n : ℕ) (xs : List ℕ) → rows w (m + n) xs ≡ rows w m xs ++ rows w n (drop (w * m) xs)

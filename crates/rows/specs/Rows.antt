@@ -1,6 +1,8 @@
 -- Entries of one width that stand one after another in a list of numbers.
 -- Assumes nothing: these are definitions.
 use Rattle.std.specs.Prelude.{◌≡◌, ℕ, zero, suc, ◌+◌, ◌-◌, ◌*◌, ◌<◌, ◌≤◌, Bool, cond, List, [], ◌∷◌, ◌++◌, length, take, drop, replicate}
+use Rattle.std.specs.Fn.{Shared}
+use Rattle.std.specs.Borrow.{Bor}
 use Rattle.std.specs.List.{AllByRecursion}
 
 -- the first n entries, each w numbers wide
@@ -48,6 +50,14 @@ kept_cells test w n xs =
 -- entries that all have the width
 abbrev pub Wide : ℕ → List (List ℕ) → Type 0
 Wide w rs = AllByRecursion (λ r. length r ≡ w) rs
+
+-- a closure may be called at each row of w numbers, and answers there what a test says
+module _ {F : Type 0} (g : Shared F (Bor (List ℕ) × Unit {0}) Bool) (f : F) (w : ℕ) where
+  abbrev pub Takes : Type 0
+  Takes = (row : Bor (List ℕ)) → length row.now ≡ w → g.pre f (row, tt)
+
+  abbrev pub Tests : (List ℕ → Bool) → Type 0
+  Tests p = (row : Bor (List ℕ)) (b : Bool) → length row.now ≡ w → g.post f (row, tt) b → b ≡ p row.now
 
 -- a region for n entries that holds some and zeros behind is one again when a row is put in at m (before the end of c entries: all that there are, or all but
 -- the last, which is gone then), when the m-th is cut out, and when those that pass are kept

@@ -1,9 +1,9 @@
 // Entries of one width in a lent slice of numbers: one is put in, one is cut out, or those that pass are kept.
-// Places are counted in numbers, so that nothing is multiplied; each contract also says what this means for entries, whatever their width.
+// Each contract also says what this means for entries, whatever their width.
 #![tactic(auto)]
 
 ghost use Rattle.std.specs.Prelude.{◌≡◌, ℕ, ◌+◌, ◌-◌, ◌*◌, ◌≤◌, Bool, List, length};
-ghost use Rattle.rows.specs.Rows.{RegionsStayLaid, rows, inserted, removed, kept, put_cells, cut_cells, kept_cells};
+ghost use Rattle.rows.specs.Rows.{RegionsStayLaid, Takes, Tests, rows, inserted, removed, kept, put_cells, cut_cells, kept_cells};
 
 // Puts a row in at `start`, as what stands from there to `end` moves up.
 pub fn put(region: &mut [u64], start: usize, end: usize, row: &[u64])
@@ -25,44 +25,35 @@ pub fn cut(region: &mut [u64], start: usize, end: usize, width: usize)
     region[end - width..end].fill(0);
 }
 
-// A test of entries of one width: which of them stay.
-pub trait RowTest {
-    // How many numbers an entry has, and whether one stays.
-    ghost wide: { Self → ℕ };
-
-    ghost passes: { Self → List ℕ → Bool };
-
-    fn keeps(&self, row: &[u64]) -> bool
-        requires { length row.now ≡ wide self.now }
-        ensures { result ≡ passes self.now row.now };
-}
-
 // Keeps those of the first `count` entries that pass, in their order; the freed ones are zero. Says how many there are.
-pub fn keep<K: RowTest>(region: &mut [u64], width: usize, count: usize, which: &K) -> usize
-    requires { (width ≡ K.RowTest.wide which.now) × (width * count ≤ length region.old) }
-    ensures stay { result ≡ length (kept (K.RowTest.passes which.now) (rows width count region.old)) }
-    ensures cells { region.new ≡ kept_cells (K.RowTest.passes which.now) width count region.old }
-    ensures entries { rows width result region.new ≡ kept (K.RowTest.passes which.now) (rows width count region.old) }
+// Stays: places of entries, since no method of a slice moves what passes together inside it.
+#[tactic(auto, using(crate::proofs::Keeping::next_fits, crate::proofs::Keeping::starts_before))]
+pub fn keep<F: Fn(&[u64]) -> bool>(
+    region: &mut [u64],
+    width: usize,
+    count: usize,
+    which: F,
+) -> usize
+    requires fits { width * count ≤ length region.old }
+    requires takes { Takes F.Fn which width }
+    ensures stay { (p : List ℕ → Bool) → Tests F.Fn which width p → result ≡ length (kept p (rows width count region.old)) }
+    ensures cells { (p : List ℕ → Bool) → Tests F.Fn which width p → region.new ≡ kept_cells p width count region.old }
+    ensures entries { (p : List ℕ → Bool) → Tests F.Fn which width p → rows width result region.new ≡ kept p (rows width count region.old) }
 {
-    let mut from = 0;
-    let mut to = 0;
     let mut stay = 0;
-    for _i in 0..count {
-        let next = from + width;
-        if which.keeps(&region[from..next]) {
-            region.copy_within(from..next, to);
-            to += width;
+    for place in 0..count {
+        let from = width * place;
+        if which(&region[from..from + width]) {
+            region.copy_within(from..from + width, width * stay);
             stay += 1;
         }
-        from = next;
     }
-    region[to..from].fill(0);
+    region[width * stay..width * count].fill(0);
     stay
 }
 
 // A region of entries with zeros behind them stays one, whatever of these is done.
-pub fn regions_stay_laid_holds() -> u8
+#[tactic(auto, using(crate::proofs::Laid::regions_stay_laid))]
+pub fn regions_stay_laid_holds()
     ensures { RegionsStayLaid }
-{
-    0
-}
+{}

@@ -1,19 +1,22 @@
 -- What a client that can't do any event replies, from its bytes to its text: an answer that it writes is read back as it was written.
-use Rattle.std.proofs.Common.{◌≡◌, ℕ, ◌<◌, true, List, [], map, length, take, IfOk, Some, Ok, Err, string_bytes, Result, String, sym, refl, ap, ◌∙◌, subst, arith}
+use Rattle.std.proofs.Common.{◌≡◌, ℕ, ◌<◌, true, List, [], ◌∷◌, map, length, take, IfOk, None, Some, IfSome, IsSomeAnd, slice_get, Option, Ok, Err, string_bytes, Result, String, sym, refl, ap, ◌∙◌, subst, arith}
 use Rattle.std.proofs.lemmas.List.{take_at}
+use denote.Param.Members.{Mut, Called}
+use Rattle.std.specs.Iterator.Runs.{Run, YieldsRun, IsMapWhileRun, CallKeepsClosure}
 use Rattle.std.specs.declared.alloc.Global.{Global}
 use Rattle.protocol.specs.Client.{Event, duty, decided, share, block, resend, garbled, Answer, Limits, State, state, answer}
 use Rattle.protocol.specs.Promise.{readable}
 use Rattle.wire.specs.Bytes.{AllBytes}
 use Rattle.wire.specs.Fixed.{Written}
+use Rattle.wire.specs.Meaning.{entry_of}
+use Rattle.wire.specs.declared.values.Entry.{Entry}
 use Rattle.events.specs.Layout.{event_bytes, parse, answer_bytes, parse_answer}
 use Rattle.events.specs.Codec.{answer_carried}
 use Rattle.events.proofs.EventLaws.{read_readable}
 use Rattle.events.proofs.AnswerLaws.{answers_back}
-use Rattle.client.specs.Stage.{reply, entry_at, Remembers}
+use Rattle.client.specs.Stage.{reply, Remembers}
 use Rattle.client.proofs.Refuses.{idle, turned_away, answer_idle, state_idle}
 use Rattle.text.specs.Text.{Asked, event, may, past, raw, request_text, answer_text, past_text}
-use Rattle.text.specs.Meaning.{entry_of}
 use Rattle.lines.specs.Bytes.{asked_bytes}
 use Rattle.run_client.specs.Reply.{reply_text, Answers, Says, RepliesTo}
 
@@ -46,15 +49,32 @@ module _ (clients me kept waiting : ℕ) (event : List ℕ) (small : AllBytes ev
       cc
 
 -- the past of such a client has no entry
-pub no_entry : (clients me kept waiting place : ℕ) (x : ℕ × ℕ) → Remembers (idle clients me kept waiting) place (Some x) → ⊥
-unfolding entry_at state
+pub no_entry : (clients me kept waiting place : ℕ) (x : Entry) → Remembers (idle clients me kept waiting) place (Some x) → ⊥
+unfolding state
 no_entry clients me kept waiting place x h = let e = h [] in let z : ◌≡◌ {A = ℕ} 0 1 = cc in never z
 
-pub past_told : (clients me kept waiting : ℕ) (es : List Event) (text : List ℕ) (items : List (ℕ × ℕ)) → text ≡ past_text (map entry_of items) → items ≡ [] →
+unstarted : {A : Type 0} (xs : List A) → ((y : A) → slice_get xs 0 ≡ Some y → ⊥) → xs ≡ []
+unstarted [] h = refl
+unstarted (x ∷ xs) h = absurd (h x refl)
+
+given_by : {A : Type 0} (o : Option A) (P : A → Type 0) → ((x : A) → P x → ⊥) → IsSomeAnd o P → ⊥
+given_by None P k h = h
+given_by (Some x) P k h = k x h
+
+-- up to the first `None`, nothing is taken from calls that give no value
+module _ {S T A B F : Type 0} {steps : S → Option B → S → Type 0} {source : T → Option A → T → Type 0} (p : Run steps) (q : Run source) (g : Mut F (A × Unit {0}) (Option B)) (f : F) where
+  pub none_taken : IsMapWhileRun p q g f → CallKeepsClosure g f → ((x : A) (y : B) → Called g f (x, tt) (Some y) f → ⊥) → p.items ≡ []
+  unfolding YieldsRun
+  none_taken h keeps none =
+      unstarted p.items (λ y e.
+      let first : p.at 0 ≡ Some y = p.gave.1 0 ∙ e in
+      given_by (q.at 0) (λ x. Called g f (x, tt) (Some y) f) (λ x. none x y) (subst (λ o. IfSome o (λ z. IsSomeAnd (q.at 0) (λ x. Called g f (x, tt) (Some z) f))) first ((h.1 keeps).0 0)))
+
+pub past_told : (clients me kept waiting : ℕ) (es : List Event) (text : List ℕ) (items : List Entry) → text ≡ past_text (map entry_of items) → items ≡ [] →
     text ≡ reply_text (idle clients me kept waiting) (state (idle clients me kept waiting) es) past
 unfolding reply_text
 past_told clients me kept waiting es text items e none =
-    e ∙ ap (λ (xs : List (ℕ × ℕ)). past_text (map entry_of xs)) none ∙ sym (ap (λ (s : State). past_text s.past) (state_idle clients me kept waiting es))
+    e ∙ ap (λ (xs : List Entry). past_text (map entry_of xs)) none ∙ sym (ap (λ (s : State). past_text s.past) (state_idle clients me kept waiting es))
 
 -- what is said to a request that has bytes is the answer to them
 pub answered_asked : (l : Limits) (q : Asked) (bs text : List ℕ) → Some bs ≡ asked_bytes q → Answers l bs text → Says l q text

@@ -3,10 +3,11 @@ use Rattle.std.specs.Prelude.{◌≡◌, ℕ, Bool, List}
 use Rattle.protocol.specs.Client.{Event, Limits, State, state, answer, lets_now}
 use Rattle.protocol.specs.Meaning.{limits_of}
 use Rattle.protocol.specs.Promise.{GoodLimits}
+use Rattle.protocol.specs.Text.{limits_text}
 use Rattle.protocol.specs.declared.sizes.Limits as declared
 use Rattle.events.specs.Layout.{event_bytes, parse}
 use Rattle.client.specs.Stage.{none}
-use Rattle.text.specs.Text.{Asked, event, may, past, raw, request_text, answer_text, past_text, may_text, limits_text}
+use Rattle.text.specs.Text.{Asked, event, may, past, raw, request_text, answer_text, past_text, may_text}
 
 -- to what is asked, in a state: an event is handed to the client as its bytes
 unfoldable pub reply_text : Limits → State → Asked → List ℕ

@@ -6,39 +6,36 @@ mod reply;
 mod trouble;
 
 use crate::play::play;
+use crate::trouble::Stopped;
 use std::env;
 use std::process::ExitCode;
-
-// The program has said what is wrong, and ends with status 1.
-#[derive(Debug, Drop)]
-pub struct Stopped;
 
 fn main(rt: HostRuntime) -> ExitCode {
     match played(&rt) {
         Ok(()) => ExitCode::SUCCESS,
-        Err(Stopped) => ExitCode::FAILURE,
+        Err(Stopped::Unprinted) => ExitCode::FAILURE,
+        Err(stopped) => {
+            let _ = eprintln!(rt; "run_client: {stopped}");
+            ExitCode::FAILURE
+        }
     }
 }
 
 // Plays each file that is named.
 fn played(rt: &HostRuntime) -> Result<(), Stopped> {
-    let Ok(args) = env::args(rt) else {
-        let _ = eprintln!(rt; "run_client: the arguments can't be read");
-        return Err(Stopped);
-    };
-    let Ok(words) = args.collect::<Vec<String>>(rt.alloc()) else {
-        let _ = eprintln!(rt; "run_client: no memory for the arguments");
-        return Err(Stopped);
-    };
+    let words = env::args(rt)
+        .map_err(|_| Stopped::Arguments)?
+        .collect::<Vec<String>>(rt.alloc())
+        .map_err(|_| Stopped::Memory)?;
     if words.len() < 2 {
-        let _ = eprintln!(rt; "run_client: no file: name files of lines, as `run_client FILE ..`");
-        return Err(Stopped);
+        return Err(Stopped::NoFile);
     }
-    for name in words.iter().skip(1) {
-        if words.len() > 2 {
+    let several = words.len() > 2;
+    for name in words.into_iter().skip(1) {
+        if several {
             let _ = println!(rt; "# {name}");
         }
-        play(rt, name.as_str())?;
+        play(rt, name)?;
     }
     Ok(())
 }

@@ -1,66 +1,47 @@
 // One file of lines.
-use crate::Stopped;
 use crate::reply::{opened, reply};
-use crate::trouble::Trouble;
+use crate::trouble::{Stopped, Trouble};
 use client::Client;
+use lines::{Expected, LineError};
+use std::alloc::Global;
 use std::fs;
 
-// Opens a client with the limits of the file's first line, and answers each other line.
-pub fn play(rt: &HostRuntime, name: &str) -> Result<(), Stopped> {
-    let Ok(text) = fs::read_to_string(rt, name) else {
-        let _ = eprintln!(rt; "run_client: {name}: can't be read: name a file of lines");
-        return Err(Stopped);
+// Opens a client with the limits of the file's first line, and prints its answer to each other line.
+pub fn play(rt: &HostRuntime, name: String) -> Result<(), Stopped> {
+    let Ok(text) = fs::read_to_string(rt, name.as_str()) else {
+        return Err(Stopped::Unread(name));
     };
     let mut client = None;
-    let mut number = 0u64;
-    for line in text.as_str().lines() {
-        number = number.saturating_add(1);
+    for (number, line) in (1u64..).zip(text.as_str().lines()) {
         if line.is_empty() || line.starts_with('#') {
             continue;
         }
-        client = Some(line_played(rt, name, number, client, line)?);
+        match said(rt.alloc(), &mut client, line) {
+            Ok(Some(answer)) => println!(rt; "{answer}").map_err(|_| Stopped::Unprinted)?,
+            Ok(None) => {}
+            Err(trouble) => return Err(Stopped::Line {
+                name,
+                number,
+                trouble,
+            }),
+        }
     }
     if client.is_none() {
-        let _ = eprintln!(rt;
-            "run_client: {name}: line 1: expected limits: write `clients N me I kept K waiting W`"
-        );
-        return Err(Stopped);
+        let trouble = Trouble::Line(LineError::Expected(Expected::Limits));
+        return Err(Stopped::Line {
+            name,
+            number: 1,
+            trouble,
+        });
     }
     Ok(())
 }
 
-// Opens the client, if there is none yet, or prints its answer.
-fn line_played(
-    rt: &HostRuntime,
-    name: &str,
-    number: u64,
-    client: Option<Client>,
-    line: &str,
-) -> Result<Client, Stopped> {
-    let Some(client) = client else {
-        return match opened(rt.alloc(), line) {
-            Ok(client) => Ok(client),
-            Err(trouble) => stopped(rt, name, number, &trouble),
-        };
+// What is said to a line: nothing, where the client is opened with it.
+fn said(heap: Global, client: &mut Option<Client>, line: &str) -> Result<Option<String>, Trouble> {
+    let Some(opened_before) = client else {
+        *client = Some(opened(heap, line)?);
+        return Ok(None);
     };
-    match reply(rt.alloc(), &client, line) {
-        Ok(text) => {
-            let Ok(()) = println!(rt; "{text}") else {
-                return Err(Stopped);
-            };
-            Ok(client)
-        }
-        Err(trouble) => stopped(rt, name, number, &trouble),
-    }
-}
-
-// Says what is wrong, and where.
-fn stopped(
-    rt: &HostRuntime,
-    name: &str,
-    number: u64,
-    trouble: &Trouble,
-) -> Result<Client, Stopped> {
-    let _ = eprintln!(rt; "run_client: {name}: line {number}: {trouble}");
-    Err(Stopped)
+    Ok(Some(reply(heap, opened_before, line)?))
 }

@@ -12,6 +12,7 @@ use events::read_answer;
 use lines::{event_bytes, read_limits, read_request};
 use std::alloc::Global;
 use text::{Request, answer_text, may_text, past_text};
+use wire::Entry;
 
 // A client that is opened with the limits of a line.
 pub fn opened(heap: Global, line: &str) -> Result<Client, Trouble>
@@ -26,33 +27,20 @@ pub fn reply(heap: Global, client: &Client, line: &str) -> Result<String, Troubl
     ensures { IfOk result (λ t. RepliesTo (limits_of none client.now.limits) line.now (string_bytes t)) }
 {
     let request = read_request(heap, line)?;
-    if let Some(event) = event_bytes(heap, &request)? {
-        return answered(heap, client, event.as_slice());
+    match event_bytes(heap, &request)? {
+        Some(event) => answered(heap, client, event.as_slice()),
+        None => told(heap, client, &request),
     }
-    told(heap, client, &request)
 }
 
 // What the client answers to an event's bytes.
 fn answered(heap: Global, client: &Client, event: &[u8]) -> Result<String, Trouble>
     ensures { IfOk result (λ t. Answers (limits_of none client.now.limits) event.now (string_bytes t)) }
 {
-    let mut room = vec![in heap; 0u8; 29 + 137 * client.limits.waiting as usize]?;
-    answered_in(heap, client, event, room.as_mut_slice())
-}
-
-// The same, with room for the answer's bytes.
-fn answered_in(
-    heap: Global,
-    client: &Client,
-    event: &[u8],
-    room: &mut [u8],
-) -> Result<String, Trouble>
-    ensures { IfOk result (λ t. Answers (limits_of none client.now.limits) event.now (string_bytes t)) }
-{
+    let mut bytes = vec![in heap; 0u8; 29 + 137 * usize::from(client.limits.waiting)]?;
+    let room = bytes.as_mut_slice();
     let n = client.handle(event, room)?;
-    let Some(answer) = read_answer(&room[0..n]) else {
-        return Err(Trouble::Answer);
-    };
+    let answer = read_answer(&room[..n]).ok_or(Trouble::Answer)?;
     Ok(answer_text(heap, &answer)?)
 }
 
@@ -74,12 +62,8 @@ fn told(heap: Global, client: &Client, request: &Request) -> Result<String, Trou
 fn told_past(heap: Global, client: &Client) -> Result<String, Trouble>
     ensures { IfOk result (λ t. Says (limits_of none client.now.limits) past (string_bytes t)) }
 {
-    let mut entries = Vec::new(heap);
-    for place in 0..client.limits.kept as usize {
-        let Some(entry) = client.past(place) else {
-            break;
-        };
-        entries.push(entry)?;
-    }
+    let entries = (0..usize::from(client.limits.kept))
+        .map_while(|place| client.past(place))
+        .collect::<Vec<Entry>>(heap)?;
     Ok(past_text(heap, entries.as_slice())?)
 }

@@ -1,34 +1,26 @@
-// Why a line has no reply.
+// Why a line has no reply, and why the program stops.
 use lines::LineError;
 use protocol::LimitsError;
-use std::alloc::{AllocError, AllocFailed};
-use std::fmt;
-use std::fmt::Display;
+use std::alloc::AllocError;
 use text::AnswerError;
+use thiserror::Error;
 use wire::Short;
 
-#[derive(Drop)]
+// Why a line has no reply.
+#[derive(Debug, Drop, Error)]
 pub enum Trouble {
     // The line can't be read.
-    Line(LineError),
+    #[error(transparent)]
+    Line(#[from] LineError),
     // A limit is out of range.
-    Limits(LimitsError),
+    #[error(transparent)]
+    Limits(#[from] LimitsError),
     // The answer's bytes have no room, or are no answer: a fault of this program.
+    #[error("the client's answer can't be read: a fault of this program")]
     Answer,
     // There is no memory.
-    Memory,
-}
-
-impl From<LineError> for Trouble {
-    fn from(error: LineError) -> Trouble {
-        Trouble::Line(error)
-    }
-}
-
-impl From<LimitsError> for Trouble {
-    fn from(error: LimitsError) -> Trouble {
-        Trouble::Limits(error)
-    }
+    #[error("there is no memory")]
+    Memory(#[from(alloc)] AllocError),
 }
 
 impl From<Short> for Trouble {
@@ -37,39 +29,38 @@ impl From<Short> for Trouble {
     }
 }
 
-impl From<AllocError> for Trouble {
-    fn from(_error: AllocError) -> Trouble {
-        Trouble::Memory
-    }
-}
-
-impl<T: Drop> From<AllocFailed<T>> for Trouble {
-    fn from(_refused: AllocFailed<T>) -> Trouble {
-        Trouble::Memory
-    }
-}
-
 impl From<AnswerError> for Trouble {
     fn from(error: AnswerError) -> Trouble {
         match error {
             AnswerError::Cut => Trouble::Answer,
-            AnswerError::Memory => Trouble::Memory,
+            AnswerError::Memory => Trouble::Memory(AllocError),
         }
     }
 }
 
-impl fmt::Display for Trouble {
-    fn fmt<W: fmt::Write>(&self, f: &mut fmt::Formatter<W>) -> fmt::Result {
-        match self {
-            Trouble::Line(error) => error.fmt(f),
-            Trouble::Limits(LimitsError::Clients) => f.write_str("expected 1 to 64 clients"),
-            Trouble::Limits(LimitsError::Me) => f.write_str("expected `me` below `clients`"),
-            Trouble::Limits(LimitsError::Kept) => f.write_str("expected 1 to 4096 kept"),
-            Trouble::Limits(LimitsError::Waiting) => f.write_str("expected 1 to 64 waiting"),
-            Trouble::Answer => f.write_str(
-                "the client's answer can't be read: a fault of this program",
-            ),
-            Trouble::Memory => f.write_str("there is no memory"),
-        }
-    }
+// Why the program ends with status 1.
+#[derive(Debug, Drop, Error)]
+pub enum Stopped {
+    // The arguments can't be read.
+    #[error("the arguments can't be read")]
+    Arguments,
+    // There is no memory for the arguments.
+    #[error("no memory for the arguments")]
+    Memory,
+    // No file is named.
+    #[error("no file: name files of lines, as `run_client FILE ..`")]
+    NoFile,
+    // A file can't be read.
+    #[error("{0}: can't be read: name a file of lines")]
+    Unread(String),
+    // A line of a file has no reply.
+    #[error("{name}: line {number}: {trouble}")]
+    Line {
+        name: String,
+        number: u64,
+        trouble: Trouble,
+    },
+    // An answer can't be printed, of which nothing is said.
+    #[error("an answer can't be printed")]
+    Unprinted,
 }

@@ -5,71 +5,51 @@ ghost use Rattle.protocol.specs.Runs.{AlwaysHandedIsWhole, BegunInOrder, HandedA
 ghost use Rattle.safety.specs.Cutting.{CuttingIsHarmless};
 
 // Quorums meet in a good client.
-pub fn quorums_meet_holds() -> u8
+pub fn quorums_meet_holds()
     ensures { QuorumsMeet }
-{
-    0
-}
+{}
 
 // Keeping n of what was kept and one more is keeping n of all and one more.
-pub fn cutting_is_harmless_holds() -> u8
+pub fn cutting_is_harmless_holds()
     ensures { CuttingIsHarmless }
-{
-    0
-}
+{}
 
 // An event that is turned away changes nothing.
-pub fn turned_away_holds() -> u8
+pub fn turned_away_holds()
     ensures { TurnedAway }
-{
-    0
-}
+{}
 
 // What is being decided at a client is for slots below any duty that it would still take.
-pub fn in_order_holds() -> u8
+pub fn in_order_holds()
     ensures { InOrder }
-{
-    0
-}
+{}
 
 // A client begins duties in the order of their slots, each slot once.
-pub fn begun_in_order_holds() -> u8
+pub fn begun_in_order_holds()
     ensures { BegunInOrder }
-{
-    0
-}
+{}
 
 // An event is turned away by the first refusal that applies, and taken where none does.
-pub fn first_that_applies_holds() -> u8
+pub fn first_that_applies_holds()
     ensures { FirstThatApplies }
-{
-    0
-}
+{}
 
 // When a share makes a quorum for its data and seat, the data is handed in then.
-pub fn handed_at_quorum_holds() -> u8
+pub fn handed_at_quorum_holds()
     ensures { HandedAtQuorum }
-{
-    0
-}
+{}
 
 // What is handed in when a share comes is whole.
-pub fn handed_is_whole_holds() -> u8
+pub fn handed_is_whole_holds()
     ensures { HandedIsWhole }
-{
-    0
-}
+{}
 
 // Whatever event comes, what is handed in is whole.
-pub fn always_handed_is_whole_holds() -> u8
+pub fn always_handed_is_whole_holds()
     ensures { AlwaysHandedIsWhole }
-{
-    0
-}
+{}
 
 // In every group the good clients alone can make attestations of two slots whole, with any right client that can do duties and what is decided.
-pub fn reaches_holds() -> u8
+pub fn reaches_holds()
     ensures { Reaches }
-{
-    0
-}
+{}

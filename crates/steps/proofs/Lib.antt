@@ -1,3 +1,4 @@
+mod Busy
 mod Apart
 mod Beginning
 mod Giving

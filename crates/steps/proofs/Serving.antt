@@ -8,8 +8,14 @@ use Rattle.wire.specs.declared.fixed.Short.{Short}
 use Rattle.events.specs.Layout.{answer_bytes}
 use Rattle.stored.specs.Stored.{Sizes, Stored}
 use Rattle.stored.specs.Kept.{Held}
+use Rattle.layout.specs.Layout.{sizes}
+use Rattle.layout.specs.declared.layout.Layout.{Layout}
 use Rattle.keeper.specs.Step.{refusal, moved, done, step, reply}
 use Rattle.steps.specs.Served.{Writes, Leaves, Serves}
+
+-- a memory whose layout stays holds what it holds by the layout that it had
+pub held_by : (l l' : Layout) → l' ≡ l → (xs : List ℕ) (t : Stored) → Held (sizes l') xs t → Held (sizes l) xs t
+held_by l l' e xs t h = subst (λ (k : Layout). Held (sizes k) xs t) e h
 
 module _ (z : Sizes) (can : ℕ → Bool) (e : Event) (before out out' : List ℕ) (t : Stored) where
   -- turned away by a number, at a place
@@ -54,6 +60,10 @@ module _ (z : Sizes) (can : ℕ → Bool) (e : Event) (before out out' : List �
     pub serves_unwritten : (s : Short) → Unwritten (length (answer_bytes a)) out out' → Serves z can e before before out out' (Err s) t
     serves_unwritten s w =
         record { says = subst (λ (x : Answer). Unwritten (length (answer_bytes x)) out out') (sym reply_is) w; leaves = refl }
+
+    pub serves_failed : (s : Short) (r : Result ℕ Short) → r ≡ Err s → Unwritten (length (answer_bytes a)) out out' → Serves z can e before before out out' r t
+    serves_failed s r is w =
+        subst (λ (q : Result ℕ Short). Serves z can e before before out out' q t) (sym is) (serves_unwritten s w)
 
     -- nothing changes, whether or not the answer has room
     pub serves_still : (r : Result ℕ Short) → Held z before (moved t e) → Writes a out out' r → Serves z can e before before out out' r t

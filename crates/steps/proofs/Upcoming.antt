@@ -1,6 +1,13 @@
 -- The first duty that waits and isn't ahead, as the queue is gone through.
-use Rattle.std.proofs.Common.{◌≡◌, ℕ, zero, suc, ◌+◌, ◌≤◌, true, false, ◌||◌, eqb, List, [], ◌∷◌, length, take, drop, sym, refl, ap, ◌∙◌, arith}
-use Rattle.std.proofs.lemmas.List.{drop_all}
+use Rattle.std.proofs.Common.{◌≡◌, ℕ, true, false, cond, not, ◌||◌, eqb, List, [], ◌∷◌, map, length, Some, None, Option, refl, ap, ◌∙◌, ap₂, arith}
+use Rattle.std.specs.List.{find}
+use Rattle.std.specs.Option.{option_map, is_some}
+use Rattle.wire.specs.Meaning.{data_of, duty_of}
+use Rattle.wire.specs.declared.values.Data.{Data as Found}
+use Rattle.wire.specs.declared.values.Duty.{Duty as Waiting}
+use Rattle.stored.specs.Numbers.{duty_numbers, duty_in}
+use Rattle.stored.proofs.Entries.{duty_back}
+use Rattle.store.specs.Store.{data_found, duty_found}
 use Rattle.protocol.specs.Data.{pick, Data, Duty}
 use Rattle.protocol.specs.Client.{has_slot, ahead_of}
 use Rattle.steps.specs.Queue.{upcoming}
@@ -24,38 +31,34 @@ told_some k d (x ∷ ds) =
       | false ↦ told_some k d ds
     ]
 
--- the duty at a place and those behind it
-pub there : (i : ℕ) (y : Duty) (ys : List Duty) → y ∷ [] ≡ take 1 (drop i ys) → drop i ys ≡ y ∷ drop (i + 1) ys
-there i y ys e = go i ys e ∙ ap (λ n. y ∷ drop n ys) next
-  where
-    next : suc i ≡ i + 1
-    next = omega arith
+-- the same, as none or one is found
+pub told : (k : ℕ) (o : Option Found) (ds : List Data) → data_found o ≡ ahead_of k ds → has_slot k ds ≡ is_some o
+told k None ds e = told_none k ds e
+told k (Some d) ds e = told_some k (data_of d) ds e
 
-    go : (i : ℕ) (ys : List Duty) → y ∷ [] ≡ take 1 (drop i ys) → drop i ys ≡ y ∷ drop (suc i) ys
-    go zero [] e = absurd (let v : ◌≡◌ {A = ℕ} 1 0 = ap length e in omega arith)
-    go zero (x ∷ ys) e = let same : y ≡ x = cc in ap (λ v. v ∷ ys) (sym same)
-    go (suc i) [] e = absurd (let v : ◌≡◌ {A = ℕ} 1 0 = ap length e in omega arith)
-    go (suc i) (x ∷ ys) e = go i ys e
+-- duties are read back from their rows
+pub read_back : (ys : List Duty) → map duty_in (map duty_numbers ys) ≡ ys
+read_back [] = refl
+read_back (y ∷ ys) = ap₂ ◌∷◌ (duty_back y) (read_back ys)
 
-module _ (i : ℕ) (ys : List Duty) (ds : List Data) where
-  pub up_none : [] ≡ take 1 (drop i ys) → upcoming (drop i ys) ds ≡ []
-  unfolding upcoming
-  up_none e = ap (λ zs. upcoming zs ds) (nil (drop i ys) e)
-    where
-      nil : (zs : List Duty) → [] ≡ take 1 zs → zs ≡ []
-      nil [] e = refl
-      nil (z ∷ zs) e = absurd (let v : ◌≡◌ {A = ℕ} 0 1 = ap length e in omega arith)
+-- the first that isn't ahead, as it is found
+as_list : Option Duty → List Duty
+as_list None = []
+as_list (Some y) = y ∷ []
 
-  pub up_ends : length ys ≤ i → upcoming (drop i ys) ds ≡ []
-  unfolding upcoming
-  up_ends h = ap (λ zs. upcoming zs ds) (drop_all i ys h)
+listed : (o : Option Waiting) → duty_found o ≡ as_list (option_map duty_of o)
+unfolding as_list
+listed None = refl
+listed (Some y) = refl
 
-  pub up_passes : (y : Duty) → y ∷ [] ≡ take 1 (drop i ys) → has_slot y.slot ds ≡ true → upcoming (drop i ys) ds ≡ upcoming (drop (i + 1) ys) ds
-  unfolding upcoming pick
-  up_passes y e on =
-      ap (λ zs. upcoming zs ds) (there i y ys e) ∙ ap (λ b. pick b (upcoming (drop (i + 1) ys) ds) (y ∷ [])) on
+first_up : (ys : List Duty) (ds : List Data) → as_list (find (λ y. not (has_slot y.slot ds)) ys) ≡ upcoming ys ds
+unfolding as_list upcoming pick
+first_up [] ds = refl
+first_up (y ∷ ys) ds =
+    elim (has_slot y.slot ds) as (λ b. as_list (cond (not b) (Some y) (find (λ y. not (has_slot y.slot ds)) ys)) ≡ pick b (upcoming ys ds) (y ∷ [])) [
+      | true ↦ first_up ys ds
+      | false ↦ refl
+    ]
 
-  pub up_stops : (y : Duty) → y ∷ [] ≡ take 1 (drop i ys) → has_slot y.slot ds ≡ false → upcoming (drop i ys) ds ≡ y ∷ []
-  unfolding upcoming pick
-  up_stops y e off =
-      ap (λ zs. upcoming zs ds) (there i y ys e) ∙ ap (λ b. pick b (upcoming (drop (i + 1) ys) ds) (y ∷ [])) off
+pub found_up : (o : Option Waiting) (ys : List Duty) (ds : List Data) → option_map duty_of o ≡ find (λ y. not (has_slot y.slot ds)) ys → duty_found o ≡ upcoming ys ds
+found_up o ys ds e = listed o ∙ ap as_list e ∙ first_up ys ds

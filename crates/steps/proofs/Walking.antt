@@ -1,10 +1,11 @@
 -- The walk of what is ahead beside the queue: where it stands, and what each turn does.
-use Rattle.std.proofs.Common.{◌≡◌, ℕ, zero, suc, ◌+◌, ◌-◌, ◌<◌, ◌≤◌, List, [], ◌∷◌, length, take, drop, sym, refl, ap, ◌∙◌, subst, arith}
+use Rattle.std.proofs.Common.{◌≡◌, ℕ, zero, suc, ◌+◌, ◌-◌, ◌<◌, ◌≤◌, List, [], ◌∷◌, map, length, take, drop, sym, refl, ap, ◌∙◌, subst, arith}
 use Rattle.std.specs.List.{AllByRecursion}
-use Rattle.std.proofs.lemmas.List.{drop_all}
+use Rattle.std.proofs.lemmas.List.{drop_all, length-map}
 use Rattle.protocol.specs.Data.{Data, Duty}
 use Rattle.protocol.specs.Client.{slots}
 use Rattle.stored.specs.Stored.{Sizes, Stored, with_queue}
+use Rattle.stored.specs.Numbers.{duty_numbers}
 use Rattle.stored.specs.Kept.{Held}
 use Rattle.keeper.specs.Ready.{Ascending, duty_slots}
 use Rattle.keeper.specs.Step.{learnt}
@@ -36,6 +37,10 @@ pub record OnTheWay (z : Sizes) (xs : List ℕ) (i left : ℕ) (goal : Stored) :
 pub walk_starts : (z : Sizes) (xs : List ℕ) (left : ℕ) (t : Stored) → Held z xs t → Orderly t → left ≡ length t.queue → OnTheWay z xs 0 left (skipped t.queue t)
 walk_starts z xs left t h r count =
     record { client = t; held = h; walk = record { wait = r.waiting; queue = r.queue; ahead = r.ahead; passed = tt; count = count }; same = refl }
+
+-- as many wait as there are rows
+pub rows_wait : (rows : List (List ℕ)) (ys : List Duty) → rows ≡ map duty_numbers ys → length rows ≡ length ys
+rows_wait rows ys e = ap length e ∙ length-map ys duty_numbers
 
 -- a list by its first, and what is behind it
 first_of_list : {A : Type 0} (x : A) (xs : List A) → x ∷ [] ≡ take 1 (drop 0 xs) → xs ≡ x ∷ drop 1 xs

@@ -1,31 +1,21 @@
 // What the deciding asks a client.
-ghost use Rattle.std.specs.Prelude.{◌≡◌, length};
+ghost use Rattle.std.specs.Prelude.{◌≡◌};
 ghost use Rattle.wire.specs.Meaning.{data_of};
 ghost use Rattle.stored.specs.Stored.{Stored};
-ghost use Rattle.stored.specs.Numbers.{needed};
-ghost use Rattle.stored.specs.Kept.{Held};
-ghost use Rattle.layout.specs.Layout.{sizes};
+ghost use Rattle.layout.specs.Memory.{Shows};
 ghost use Rattle.keeper.specs.Step.{allows as lets};
 
-use layout::Layout;
-use store::{Duties, duty_at, is_valid};
-use wire::Data;
+use layout::View;
+use numbers::InNumbers;
+use store::{Deciding, Listed, is_valid};
+use wire::{Data, Duty};
 
 // Whether the deciding for a slot may come to data: it is valid, by the past as it is now, for a duty with that slot that is being decided.
-pub fn allows(memory: &[u64], layout: &Layout, slot: u64, data: &Data) -> bool
-    requires { length memory.now ≡ needed (sizes layout.now) }
-    ensures { (t : Stored) → Held (sizes layout.now) memory.now t → result ≡ lets t slot (data_of «data».now) }
+pub fn allows(view: View, slot: u64, data: &Data) -> bool
+    ensures { (t : Stored) → Shows view.entry t → result ≡ lets t slot (data_of «data».now) }
 {
-    for place in 0..layout.waiting {
-        let Some(duty) = duty_at(memory, layout, Duties::Deciding, place) else {
-            return false;
-        };
-        if duty.slot != slot {
-            continue;
-        }
-        if is_valid(memory, layout, data, &duty) {
-            return true;
-        }
-    }
-    false
+    Deciding::rows(view)
+        .iter()
+        .map(|row| Duty::from_numbers(row))
+        .any(|duty| duty.slot == slot && is_valid(view, data, &duty))
 }

@@ -5,6 +5,7 @@ mod answers;
 mod asking;
 mod decided;
 mod duty;
+mod hand;
 mod queue;
 mod share;
 mod taking;

@@ -1,7 +1,4 @@
+mod Lists
 mod Ordered
-mod Typed
-mod Lending
-mod Listings
-mod DutyLists
 mod PastList
-mod SlotLists
+mod Relisting

@@ -1,7 +1,8 @@
 -- Entries put in by their order: at which place they go, and that this is what the definitions do with what is ahead and with own shares.
-use Rattle.std.proofs.Common.{◌≡◌, ℕ, zero, suc, ◌<◌, ◌≤◌, Bool, true, false, cond, eqb, leb, List, [], ◌∷◌, map, length, take, drop, set, sym, refl, ap, ◌∙◌, ap₂, ⊎_elim, arith, length-set}
+use Rattle.std.proofs.Common.{◌≡◌, ℕ, zero, suc, ◌<◌, ◌≤◌, Bool, true, false, cond, eqb, ltb, leb, List, [], ◌∷◌, map, length, take, drop, set, Some, None, Option, sym, refl, ap, ◌∙◌, subst, ap₂, ⊎_elim, arith, length-set}
+use Rattle.std.specs.Option.{unwrap_or}
 use Rattle.std.proofs.lemmas.List.{take_all}
-use Rattle.std.proofs.lemmas.Bool.{cases_order, lt-ltb, le-ltb, le-leb, lt-leb, eq-eqb, ne_eqb, false≢true}
+use Rattle.std.proofs.lemmas.Bool.{cases_order, lt-ltb, le-ltb, le-leb, lt-leb, eq-eqb, ne_eqb, false≢true, ltb-false}
 use Rattle.protocol.specs.Data.{pick, Data}
 use Rattle.protocol.specs.Client.{Share, ahead_of, by_slot, own_with}
 use Rattle.rows.specs.Rows.{inserted}
@@ -115,3 +116,16 @@ ahead_is k (x ∷ xs) =
       | true ↦ refl
       | false ↦ ahead_is k xs
     ]
+
+-- the place that was found, or the one behind all
+pub place_is : (o : Option ℕ) (m n place : ℕ) → o ≡ cond (ltb m n) (Some m) None → m ≤ n → place ≡ unwrap_or o n → place ≡ m
+place_is o m n place e low is = is ∙ ap (λ v. unwrap_or v n) e ∙ by (ltb m n) (λ b. ltb-false m n b)
+  where
+    by : (b : Bool) → (b ≡ false → n ≤ m) → unwrap_or (cond b (Some m) None) n ≡ m
+    by true h = refl
+    by false h = omega (arith, h refl)
+
+-- the same region, by equal numbers
+pub same_region : (w n n' : ℕ) (rs : List (List ℕ)) (xs ys : List ℕ) → n' ≡ n → ys ≡ xs → Region w n rs xs → Region w n' rs ys
+same_region w n n' rs xs ys e is r =
+    subst (λ (k : ℕ). Region w k rs ys) (sym e) (subst (λ (zs : List ℕ). Region w n rs zs) (sym is) r)

@@ -1,4 +1,6 @@
 pub mod Among
-pub mod Kinds
+pub mod Laws
 pub mod Placing
+pub mod Relisted
+pub mod Rooms
 pub mod Store

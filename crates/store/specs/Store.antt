@@ -2,17 +2,13 @@
 use Rattle.std.specs.Prelude.{ℕ, Bool, List, [], ◌∷◌, Some, None, Option}
 use Rattle.protocol.specs.Data as defined
 use Rattle.protocol.specs.Client as client
-use Rattle.wire.specs.Meaning.{data_of, duty_of, share_of}
+use Rattle.wire.specs.Meaning.{data_of, duty_of, share_of, entry_of}
 use Rattle.wire.specs.declared.values.Data.{Data}
 use Rattle.wire.specs.declared.values.Duty.{Duty}
 use Rattle.wire.specs.declared.values.Share.{Share}
-use Rattle.past.specs.Past.{entry}
+use Rattle.wire.specs.declared.values.Entry.{Entry}
 use Rattle.rows.specs.Rows.{kept}
 use Rattle.stored.specs.Stored.{Stored, with_active, with_ahead, with_own}
-use Rattle.store.specs.declared.kinds.Duties.{Duties}
-use Rattle.store.specs.declared.kinds.Duties.TheVariants.{Waiting, Deciding}
-use Rattle.store.specs.declared.kinds.Slotted.{Slotted}
-use Rattle.store.specs.declared.kinds.Slotted.TheVariants.{Active, Ahead, Own}
 
 -- what may be there, as a list of none or one
 abbrev pub duty_found : Option Duty → List defined.Duty
@@ -27,17 +23,16 @@ abbrev pub share_found : Option Share → List client.Share
 share_found None = []
 share_found (Some s) = share_of s ∷ []
 
-abbrev pub entry_found : Option (ℕ × ℕ) → List defined.Past
+abbrev pub entry_found : Option Entry → List defined.Past
 entry_found None = []
-entry_found (Some p) = entry p.0 p.1 ∷ []
-
--- the duties that wait, or those that are being decided
-abbrev pub duties : Duties → Stored → List defined.Duty
-duties Waiting t = t.queue
-duties Deciding t = t.active
+entry_found (Some e) = entry_of e ∷ []
 
 -- of what is being decided, what is ahead, or the own shares, just what is for slots that pass
-abbrev pub only : Slotted → (ℕ → Bool) → Stored → Stored
-only Active test t = with_active (kept (λ y. test y.slot) t.active) t
-only Ahead test t = with_ahead (kept (λ d. test d.slot) t.ahead) t
-only Own test t = with_own (kept (λ s. test s.what.slot) t.own) t
+abbrev pub only_active : (ℕ → Bool) → Stored → Stored
+only_active test t = with_active (kept (λ y. test y.slot) t.active) t
+
+abbrev pub only_ahead : (ℕ → Bool) → Stored → Stored
+only_ahead test t = with_ahead (kept (λ d. test d.slot) t.ahead) t
+
+abbrev pub only_own : (ℕ → Bool) → Stored → Stored
+only_own test t = with_own (kept (λ s. test s.what.slot) t.own) t

@@ -1,63 +1,167 @@
-// Which of a client's lists is meant.
-ghost use Rattle.std.specs.Prelude.{◌≡◌};
-ghost use Rattle.store.specs.Kinds.{duty_region, slotted_region, slotted_width, slotted_place};
+// The five lists.
+ghost use Rattle.std.specs.Prelude.{◌≡◌, ◌<◌, map, take, drop};
+ghost use Rattle.std.proofs.Common.{rules, lit<};
+ghost use Rattle.std.specs.List.{AllByRecursion};
+ghost use Rattle.protocol.specs.Client.{Share as SomeShare};
+ghost use Rattle.past.specs.Past.{row_of};
+ghost use Rattle.stored.specs.Numbers.{duty_numbers, data_numbers, share_numbers};
+ghost use Rattle.layout.specs.declared.region.Region.TheVariants as region;
+ghost use Rattle.store.specs.Store.{duty_found, data_found, share_found, entry_found, only_active, only_ahead, only_own};
+ghost use Rattle.store.specs.Relisted.{only_active_relisted, only_ahead_relisted, only_own_relisted};
+ghost use Rattle.store.specs.Laws.{past_held, past_read, past_none, queue_held, active_held, duty_read, duty_none, ahead_held, data_read, data_none, own_held, share_read, share_none};
 
-use crate::tests::Column;
+use crate::listed::Listed;
+use crate::slotted::Slotted;
 use layout::Region;
+use wire::{Data, Duty, Entry, Share};
 
-// The lists of duties: those that wait, and those that are being decided.
-#[derive(Clone, Copy)]
-pub enum Duties {
-    Waiting,
-    Deciding,
+// The past, the largest target first.
+pub struct Past;
+
+// The duties that wait, the first that waits first.
+pub struct Waiting;
+
+// The duties that are being decided, the last begun first.
+pub struct Deciding;
+
+// The data that is ahead, by slots.
+pub struct Ahead;
+
+// The own shares, the largest slot first.
+pub struct Own;
+
+impl Listed<2> for Past {
+    type Entry = Entry;
+
+    ghost REGION = { region.Past };
+
+    ghost rows = { λ t. map row_of t.past };
+
+    ghost found = { λ t i e. entry_found e ≡ take 1 (drop i t.past) };
+
+    ghost sized = { Prim.search rules };
+
+    ghost held = { past_held };
+
+    ghost some = { past_read };
+
+    ghost none = { past_none };
+
+    const REGION: Region = Region::Past;
 }
 
-impl Duties {
-    // Where it lies.
-    pub(crate) fn region(self) -> Region
-        ensures { result ≡ duty_region self }
-    {
-        match self {
-            Duties::Waiting => Region::Queue,
-            Duties::Deciding => Region::Active,
-        }
-    }
+impl Listed<3> for Waiting {
+    type Entry = Duty;
+
+    ghost REGION = { region.Queue };
+
+    ghost rows = { λ t. map duty_numbers t.queue };
+
+    ghost found = { λ t i y. duty_found y ≡ take 1 (drop i t.queue) };
+
+    ghost sized = { Prim.search rules };
+
+    ghost held = { queue_held };
+
+    ghost some = { λ t. duty_read t.queue };
+
+    ghost none = { λ t. duty_none t.queue };
+
+    const REGION: Region = Region::Queue;
 }
 
-// The lists of which entries go by their slots: what is being decided, what is ahead, own shares.
-#[derive(Clone, Copy)]
-pub enum Slotted {
-    Active,
-    Ahead,
-    Own,
+impl Listed<3> for Deciding {
+    type Entry = Duty;
+
+    ghost REGION = { region.Active };
+
+    ghost rows = { λ t. map duty_numbers t.active };
+
+    ghost found = { λ t i y. duty_found y ≡ take 1 (drop i t.active) };
+
+    ghost sized = { Prim.search rules };
+
+    ghost held = { active_held };
+
+    ghost some = { λ t. duty_read t.active };
+
+    ghost none = { λ t. duty_none t.active };
+
+    const REGION: Region = Region::Active;
 }
 
-impl Slotted {
-    // Where it lies.
-    pub(crate) fn region(self) -> Region
-        ensures { result ≡ slotted_region self }
-    {
-        match self {
-            Slotted::Active => Region::Active,
-            Slotted::Ahead => Region::Ahead,
-            Slotted::Own => Region::Own,
-        }
-    }
+impl Listed<16> for Ahead {
+    type Entry = Data;
 
-    // Where its entries have their slots.
-    pub(crate) fn column(self) -> Column
-        ensures { (result.width ≡ slotted_width self) × (result.place ≡ slotted_place self) }
-    {
-        match self {
-            Slotted::Active => Column { width: 3, place: 0 },
-            Slotted::Ahead => Column {
-                width: 16,
-                place: 0,
-            },
-            Slotted::Own => Column {
-                width: 18,
-                place: 2,
-            },
-        }
-    }
+    ghost REGION = { region.Ahead };
+
+    ghost rows = { λ t. map data_numbers t.ahead };
+
+    ghost found = { λ t i d. data_found d ≡ take 1 (drop i t.ahead) };
+
+    ghost sized = { Prim.search rules };
+
+    ghost held = { ahead_held };
+
+    ghost some = { data_read };
+
+    ghost none = { data_none };
+
+    const REGION: Region = Region::Ahead;
+}
+
+impl Listed<18> for Own {
+    type Entry = Share;
+
+    ghost REGION = { region.Own };
+
+    ghost rows = { λ t. map share_numbers t.own };
+
+    ghost found = { λ t i s. AllByRecursion (λ (x : SomeShare). x.who < 256) t.own → share_found s ≡ take 1 (drop i t.own) };
+
+    ghost sized = { Prim.search rules };
+
+    ghost held = { own_held };
+
+    ghost some = { share_read };
+
+    ghost none = { share_none };
+
+    const REGION: Region = Region::Own;
+}
+
+impl Slotted<3> for Deciding {
+    ghost SLOT = { 0 };
+
+    ghost only = { only_active };
+
+    ghost inside = { lit< tt };
+
+    ghost keeps = { only_active_relisted };
+
+    const SLOT: usize = 0;
+}
+
+impl Slotted<16> for Ahead {
+    ghost SLOT = { 0 };
+
+    ghost only = { only_ahead };
+
+    ghost inside = { lit< tt };
+
+    ghost keeps = { only_ahead_relisted };
+
+    const SLOT: usize = 0;
+}
+
+impl Slotted<18> for Own {
+    ghost SLOT = { 2 };
+
+    ghost only = { only_own };
+
+    ghost inside = { lit< tt };
+
+    ghost keeps = { only_own_relisted };
+
+    const SLOT: usize = 2;
 }

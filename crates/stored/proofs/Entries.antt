@@ -28,7 +28,7 @@ cell_length (holds seat d) = refl
 two_pieces : (r : ℕ) → r % 18446744073709551616 + 18446744073709551616 * (r / 18446744073709551616) ≡ r
 two_pieces r = omega arith
 
-root_back : (r : ℕ) → root_at (root_numbers r) 0 ≡ r
+pub root_back : (r : ℕ) → root_at (root_numbers r) 0 ≡ r
 unfolding root_numbers
 root_back r = rw (two_pieces (r / 18446744073709551616 / 18446744073709551616), two_pieces (r / 18446744073709551616), two_pieces r)
 

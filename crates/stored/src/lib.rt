@@ -5,29 +5,21 @@ ghost use Rattle.stored.specs.Kept.{ReadsBack, HasItsSize, NumbersFit};
 ghost use Rattle.stored.specs.Stands.{FreshStands};
 
 // A memory is read back as the client that it was made of.
-pub fn reads_back_holds() -> u8
+pub fn reads_back_holds()
     ensures { ReadsBack }
-{
-    0
-}
+{}
 
 // It has just as many numbers as are needed, and that is within the allowance.
-pub fn has_its_size_holds() -> u8
+pub fn has_its_size_holds()
     ensures { HasItsSize }
-{
-    0
-}
+{}
 
 // Each of its numbers fits into 64 bits.
-pub fn numbers_fit_holds() -> u8
+pub fn numbers_fit_holds()
     ensures { NumbersFit }
-{
-    0
-}
+{}
 
 // What was just opened stands for a new client of the definitions.
-pub fn fresh_stands_holds() -> u8
+pub fn fresh_stands_holds()
     ensures { FreshStands }
-{
-    0
-}
+{}

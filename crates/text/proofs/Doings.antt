@@ -1,16 +1,16 @@
 -- What an answer says was done: the entries of its rows, one after the other, and their line.
-use Rattle.std.specs.Prelude.{◌≡◌, ℕ, zero, suc, ◌+◌, ◌*◌, ◌≤◌, true, false, List, [], ◌∷◌, ◌++◌, map, length, drop, codes, decimal, ◌==◌, refl}
+use Rattle.std.specs.Prelude.{◌≡◌, ℕ, zero, suc, ◌+◌, ◌*◌, ◌≤◌, true, false, ◌==◌, List, [], ◌∷◌, ◌++◌, drop, length, codes, refl}
 use Rattle.std.proofs.Math.Path.{sym}
 use Rattle.std.proofs.Common.{ap, ◌∙◌, append-nil, append_assoc, mul-zero, add-one, arith, drop-drop}
-use Rattle.std.proofs.lemmas.List.{map_push}
-use Rattle.std.proofs.lemmas.Bool.{false≢true}
+use Rattle.std.proofs.lemmas.Bool.{eqb-true, eqb-false}
 use Rattle.events.specs.Layout.{entries}
 use Rattle.events.specs.Meaning.{answer_of, row_shares, row_data, row_duties, row_slots}
 use Rattle.events.specs.declared.answer.Answer.{Answer}
-use Rattle.events.specs.declared.answer.Answer.TheVariants.{Refused, Done}
-use Rattle.events.specs.declared.row.Row.{Row}
-use Rattle.text.specs.Text.{joined, done_texts, done_text, answer_text}
-use Rattle.text.proofs.Listings.{some}
+use Rattle.events.specs.declared.answer.Answer.TheVariants.{Done}
+use Rattle.events.specs.declared.answer.Rows.{Rows}
+use Rattle.protocol.specs.Data.{Data, Duty}
+use Rattle.protocol.specs.Client.{Share}
+use Rattle.text.specs.Text.{listed, joined, done_texts, done_text, answer_text}
 
 -- one entry more
 entries_push : {A : Type 0} (size : ℕ) (from : List ℕ → A) (n : ℕ) (bs : List ℕ) → entries size from (suc n) bs ≡ entries size from n bs ++ (from (drop (size * n) bs) ∷ [])
@@ -20,44 +20,55 @@ entries_push size from (suc n) bs =
     let next : size * suc n ≡ size + size * n = omega arith in
     rw (next, ← drop-drop (size * n) size bs) (ap (λ xs. from bs ∷ xs) (entries_push size from n (drop size bs)))
 
-module _ {S : Type 0} (g : S → List ℕ) (size : ℕ) (from : List ℕ → List ℕ) (bs : List ℕ) where
-  pub entries_start : (ps : List S) → map g ps ≡ map g ps ++ entries size from 0 bs
-  unfolding entries
-  entries_start ps = sym (append-nil (map g ps))
+-- a line that has one entry more
+pub entry_told : (size : ℕ) (from : List ℕ → List ℕ) (bs : List ℕ) (start : List (List ℕ) → List ℕ) (text lead new : List ℕ) (i : ℕ)
+    → ((more : List (List ℕ)) → text ++ listed lead (codes "; ") more ≡ start (entries size from i bs ++ more))
+    → new ≡ text ++ (lead ++ from (drop (size * i) bs))
+    → (more : List (List ℕ)) → new ++ listed (codes "; ") (codes "; ") more ≡ start (entries size from (i + 1) bs ++ more)
+unfolding listed
+entry_told size from bs start text lead new i f e more =
+    rw (e, add-one i, entries_push size from i bs, append_assoc (entries size from i bs) (from (drop (size * i) bs) ∷ []) more)
+    (simp append_assoc (f (from (drop (size * i) bs) ∷ more)))
 
-  pub entries_step : (start ps qs : List S) (p : S) (i : ℕ) → map g ps ≡ map g start ++ entries size from i bs → qs ≡ ps ++ p ∷ []
-      → g p ≡ from (drop (size * i) bs) → map g qs ≡ map g start ++ entries size from (i + 1) bs
-  entries_step start ps qs p i e k h =
-      ap (map g) k ∙ map_push g ps p
-      ∙ rw (e, h, add-one i, entries_push size from i bs) (append_assoc (map g start) (entries size from i bs) (from (drop (size * i) bs) ∷ []))
+-- a line that has all of a row
+pub row_told : (size : ℕ) (from : List ℕ → List ℕ) (bs : List ℕ) (start line : List (List ℕ) → List ℕ) (i n count : ℕ) (all : List (List ℕ))
+    → ((more : List (List ℕ)) → line more ≡ start (entries size from i bs ++ more))
+    → n ≤ i → i ≤ n → n ≡ count → all ≡ entries size from count bs
+    → (more : List (List ℕ)) → line more ≡ start (all ++ more)
+row_told size from bs start line i n count all f g h k e more = let m : i ≡ count = omega arith in rw (e, ← m) (f more)
 
-  pub entries_end : (start ps : List S) (i n : ℕ) (all : List (List ℕ)) → map g ps ≡ map g start ++ entries size from i bs → i ≡ n → all ≡ entries size from n bs → map g ps ≡ map g start ++ all
-  entries_end start ps i n all e k h = rw h (rw k at e)
+-- the line of four rows, one row after the other
+pub four_rows : (one two three four : List (List ℕ) → List ℕ) (base text : List ℕ) (a b c d : List (List ℕ)) → base ≡ []
+    → ((more : List (List ℕ)) → one more ≡ base ++ joined (codes "; ") (a ++ more))
+    → ((more : List (List ℕ)) → two more ≡ one (b ++ more))
+    → ((more : List (List ℕ)) → three more ≡ two (c ++ more))
+    → ((more : List (List ℕ)) → four more ≡ three (d ++ more))
+    → four [] ≡ text ++ [] → text ≡ joined (codes "; ") (a ++ (b ++ (c ++ d)))
+four_rows one two three four base text a b c d e0 e1 e2 e3 e4 e =
+    sym (append-nil text) ∙ sym e ∙ e4 [] ∙ (rw (append-nil d) (e3 d)) ∙ e2 (c ++ d) ∙ e1 (b ++ (c ++ d)) ∙ (rw e0)
 
--- a count has come to its end
-pub at_end : (i n k : ℕ) → k ≤ i → i ≤ k → k ≡ n → i ≡ n
-at_end i n k g h e = omega arith
+-- a line with nothing has no deed
+none_done : (ss : List Share) (ds : List Data) (ys : List Duty) (ks : List ℕ) → length (joined (codes "; ") (done_texts ss ds ys ks)) ≡ 0 → done_texts ss ds ys ks ≡ []
+unfolding listed
+none_done (s ∷ ss) ds ys ks e = absurd (omega (arith, e))
+none_done [] (d ∷ ds) ys ks e = absurd (omega (arith, e))
+none_done [] [] (y ∷ ys) ks e = absurd (omega (arith, e))
+none_done [] [] [] (k ∷ ks) e = absurd (omega (arith, e))
+none_done [] [] [] [] e = refl
 
--- the entries of four rows, one row after the other
-pub four_rows : {S : Type 0} (g : S → List ℕ) (ps ps1 ps2 ps3 ps4 : List S) (a b c d : List (List ℕ)) → ps ≡ []
-    → map g ps1 ≡ map g ps ++ a → map g ps2 ≡ map g ps1 ++ b → map g ps3 ≡ map g ps2 ++ c → map g ps4 ≡ map g ps3 ++ d
-    → map g ps4 ≡ a ++ (b ++ (c ++ d))
-four_rows g ps ps1 ps2 ps3 ps4 a b c d e e1 e2 e3 e4 = rw (e4, e3, e2, e1, e) (simp append_assoc)
-
-pub done_none : {S : Type 0} (g : S → List ℕ) (ps : List S) → true ≡ (length ps == 0) → codes "nothing" ≡ done_text (map g ps)
+pub nothing_done : (ss : List Share) (ds : List Data) (ys : List Duty) (ks text : List ℕ) → text ≡ joined (codes "; ") (done_texts ss ds ys ks) → true ≡ (length text == 0)
+    → codes "nothing" ≡ done_text (done_texts ss ds ys ks)
 unfolding done_text
-done_none g [] e = refl
-done_none g (p ∷ ps) e = absurd (some p ps e)
+nothing_done ss ds ys ks text e z =
+    let none : length (joined (codes "; ") (done_texts ss ds ys ks)) ≡ 0 = rw (← e) (eqb-true (length text) 0 (sym z)) in
+    rw (none_done ss ds ys ks none)
 
-pub done_some : {S : Type 0} (g : S → List ℕ) (ps : List S) → false ≡ (length ps == 0) → joined (codes "; ") (map g ps) ≡ done_text (map g ps)
-unfolding done_text
-done_some g [] e = absurd (false≢true e)
-done_some g (p ∷ ps) e = refl
+pub something_done : (ts : List (List ℕ)) (text : List ℕ) → text ≡ joined (codes "; ") ts → false ≡ (length text == 0) → text ≡ done_text ts
+unfolding done_text listed
+something_done [] text e z = absurd (eqb-false (length text) 0 (sym z) (rw e))
+something_done (t ∷ ts) text e z = e
 
-pub refused_line : (a : Answer) (j k : ℕ) → a ≡ Refused j k → codes "refused " ++ (decimal j ++ (codes " at " ++ decimal k)) ≡ answer_text (answer_of a)
+pub done_said : (a : Answer) (r : Rows) → a ≡ Done r
+    → done_text (done_texts (row_shares r.sent) (row_data r.handed_in) (row_duties r.begun) (row_slots r.ended)) ≡ answer_text (answer_of a)
 unfolding answer_text answer_of
-refused_line a j k e = rw e
-
-pub done_said : (a : Answer) (s d y k : Row) (ts : List (List ℕ)) → a ≡ Done s d y k → ts ≡ done_texts (row_shares s) (row_data d) (row_duties y) (row_slots k) → done_text ts ≡ answer_text (answer_of a)
-unfolding answer_text answer_of
-done_said a s d y k ts e f = rw (e, f)
+done_said a r e = rw e

@@ -1,9 +1,4 @@
-mod Asks
 mod Doings
-mod Joined
-mod Listings
-mod Made
-mod RootLaws
-mod Roots
-mod Said
+mod Listed
 mod Shorts
+mod RootLaws

@@ -1,9 +1,10 @@
 -- Why an answer has no text: a row is cut short, or there is no memory.
-use Rattle.std.proofs.Common.{◌≡◌, ℕ, ◌+◌, ◌*◌, ◌<◌, ◌≤◌, ◌⊎◌, List, length, IsErrAnd, Result, inl, inr, mul-le-mul_left, arith, MatchResult}
+use Rattle.std.proofs.Common.{◌≡◌, ℕ, ◌+◌, ◌*◌, ◌<◌, ◌≤◌, ◌⊎◌, List, length, IsErrAnd, Result, Ok, Err, Option, Some, None, MatchOption, inl, inr, mul-le-mul_left, arith, MatchResult}
 use Rattle.std.proofs.lemmas.Result.{err_from_is_err_and}
+use Rattle.std.specs.Option.{ok_or}
 use Rattle.events.specs.declared.answer.Answer.{Answer}
 use Rattle.events.specs.declared.answer.Answer.TheVariants.{Done}
-use Rattle.events.specs.declared.row.Row.{Row}
+use Rattle.events.specs.declared.answer.Rows.{Rows}
 use Rattle.text.specs.Short.{ShortRows, ShortAnswer, IfCut}
 use Rattle.text.specs.declared.errors.AnswerError.{AnswerError}
 use Rattle.text.specs.declared.errors.AnswerError.TheVariants.{Cut, Memory}
@@ -36,6 +37,19 @@ cut_at size count n i bs h e (inr k) =
     omega arith
 
 -- an answer whose rows are those
-pub rows_cut : (a : Answer) (ss ds ys ks : Row) → a ≡ Done ss ds ys ks → ShortRows ss ds ys ks → ShortAnswer a
+pub rows_cut : (a : Answer) (r : Rows) → a ≡ Done r → ShortRows r → ShortAnswer a
 unfolding ShortAnswer
-rows_cut a ss ds ys ks k h = rw k h
+rows_cut a r k h = rw k h
+
+-- what `ok_or` makes of an entry that is not there
+pub missing : {X : Type 0} (size count n i : ℕ) (bs : List ℕ) (o : Option X) (there : X → Type 0) (q : Result X AnswerError) (x : AnswerError) → i < n → n ≡ count
+    → MatchOption o ((count ≤ i) ⊎ (length bs < size * i + size)) there → q ≡ ok_or o Cut → q ≡ Err x → IfCut (length bs < size * count) x
+missing size count n i bs None there q x h e m k w =
+    let same : Cut ≡ x = cc in
+    rw (← same) (cut_at size count n i bs h e m)
+missing size count n i bs (Some y) there q x h e m k w = let z : ◌≡◌ {A = ℕ} 0 1 = cc in absurd (omega arith)
+
+-- what is told of four rows is what is told of the answer that has them
+pub answer_is : {T : Type 0} (r : Result T AnswerError) (A B : T → Type 0) (P Q : Type 0) → ((t : T) → A t → B t) → (P → Q) → MatchResult r A (IfCut P) → MatchResult r B (IfCut Q)
+answer_is (Ok t) A B P Q f g h = f t h
+answer_is (Err e) A B P Q f g h = if_cut_weaker e g h

@@ -3,3 +3,4 @@ pub mod Text
 pub mod Meaning
 pub mod Short
 pub mod Told
+pub mod Line

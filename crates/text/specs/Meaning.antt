@@ -1,6 +1,5 @@
 -- What requests stand for. Assumes nothing: these are definitions.
-use Rattle.std.specs.Prelude.{ℕ, map, vec_items}
-use Rattle.protocol.specs.Data.{Past}
+use Rattle.std.specs.Prelude.{map, vec_items}
 use Rattle.protocol.specs.Client.{duty, decided, share, block, resend}
 use Rattle.wire.specs.Meaning.{data_of, duty_of, share_of}
 use Rattle.text.specs.Text.{Asked, event, may, past, raw}
@@ -16,7 +15,3 @@ request_of Resend = event resend
 request_of (May k d) = may k (data_of d)
 request_of PastAsked = past
 request_of (Bytes bs) = raw (vec_items bs)
-
--- an entry of the past: its source and its target
-abbrev pub entry_of : ℕ × ℕ → Past
-entry_of p = record { from = p.0; to = p.1 }

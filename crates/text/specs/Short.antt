@@ -2,6 +2,7 @@
 use Rattle.std.specs.Prelude.{ℕ, ◌*◌, ◌<◌, ◌⊎◌, length}
 use Rattle.events.specs.declared.answer.Answer.{Answer}
 use Rattle.events.specs.declared.answer.Answer.TheVariants.{Refused, Done}
+use Rattle.events.specs.declared.answer.Rows.{Rows}
 use Rattle.events.specs.declared.row.Row.{Row}
 use Rattle.text.specs.declared.errors.AnswerError.{AnswerError}
 use Rattle.text.specs.declared.errors.AnswerError.TheVariants.{Cut, Memory}
@@ -11,13 +12,13 @@ abbrev pub ShortRow : ℕ → Row → Type 0
 ShortRow size r = length r.bytes.now < size * r.count
 
 -- those of one of four rows
-abbrev pub ShortRows : Row → Row → Row → Row → Type 0
-ShortRows ss ds ys ks = ShortRow 137 ss ⊎ (ShortRow 128 ds ⊎ (ShortRow 24 ys ⊎ ShortRow 8 ks))
+abbrev pub ShortRows : Rows → Type 0
+ShortRows r = ShortRow 137 r.sent ⊎ (ShortRow 128 r.handed_in ⊎ (ShortRow 24 r.begun ⊎ ShortRow 8 r.ended))
 
 -- those of one of an answer's rows
 unfoldable pub ShortAnswer : Answer → Type 0
 ShortAnswer (Refused j k) = ⊥
-ShortAnswer (Done ss ds ys ks) = ShortRows ss ds ys ks
+ShortAnswer (Done r) = ShortRows r
 
 -- what holds where an answer has no text for want of bytes
 unfoldable pub IfCut : Type 0 → AnswerError → Type 0

@@ -1,38 +1,9 @@
 -- What the lines of the programs say, as the codes of their characters. Assumes nothing: these are definitions.
-use Rattle.std.specs.Prelude.{ℕ, ◌+◌, ◌/◌, ◌%◌, Bool, false, cond, ◌&&◌, List, [], ◌∷◌, ◌++◌, map, reverse, codes, decimal, ◌==◌}
+use Rattle.std.specs.Prelude.{ℕ, ◌/◌, ◌%◌, Bool, false, cond, List, [], ◌∷◌, ◌++◌, map, reverse, codes, decimal}
 use Rattle.std.specs.Fmt.{digit_glyph}
-use Rattle.std.specs.Int.Digits.{digits_of}
 use Rattle.protocol.specs.Data.{Data, Duty, Past}
-use Rattle.protocol.specs.Client.{Share, Limits, Event, duty, decided, share, block, resend, garbled, Answer, refused, does}
-
--- a root in decimal, which has more digits than the numbers of the code: the same digits, `0` for 0
-unfoldable pub root_text : ℕ → List ℕ
-root_text n = cond (n == 0) (codes "0") (map (λ d. 48 + d) (digits_of 10 n))
-
--- a committee and the roots of the checkpoints, left out where all three are 0
-unfoldable pub plain : Data → Bool
-plain d = d.committee == 0 && (d.source_root == 0 && d.target_root == 0)
-
-unfoldable pub data_head : Data → List ℕ
-data_head d = decimal d.slot ++ (codes " " ++ (root_text d.block ++ (codes " " ++ (decimal d.source ++ (codes " " ++ decimal d.target)))))
-
-unfoldable pub data_tail : Data → List ℕ
-data_tail d = decimal d.committee ++ (codes " " ++ (root_text d.source_root ++ (codes " " ++ root_text d.target_root)))
-
--- data: slot, block, source and target, and then committee, source root and target root
-unfoldable pub data_text : Data → List ℕ
-data_text d = cond (plain d) (data_head d) (data_head d ++ (codes " " ++ data_tail d))
-
--- a duty, without its committee where that is 0
-unfoldable pub duty_text : Duty → List ℕ
-duty_text y =
-    cond (y.committee == 0)
-    (decimal y.slot ++ (codes " seat " ++ decimal y.seat))
-    (decimal y.slot ++ (codes " seat " ++ (decimal y.seat ++ (codes " committee " ++ decimal y.committee))))
-
--- a share: who, the seat and the data
-unfoldable pub share_text : Share → List ℕ
-share_text s = decimal s.who ++ (codes " seat " ++ (decimal s.seat ++ (codes ": " ++ data_text s.what)))
+use Rattle.protocol.specs.Client.{Share, Event, duty, decided, share, block, resend, garbled, Answer, refused, does}
+use Rattle.wire.specs.Text.{data_text, duty_text, share_text, entry_text}
 
 -- texts one after the other: a lead before the first, and what stands between before each other
 unfoldable pub listed : List ℕ → List ℕ → List (List ℕ) → List ℕ
@@ -47,7 +18,7 @@ unfoldable pub hex : List ℕ → List ℕ
 hex [] = []
 hex (b ∷ bs) = digit_glyph false (b / 16) ∷ (digit_glyph false (b % 16) ∷ hex bs)
 
--- what data is listed in a block; raw bytes; an entry of the past
+-- what data is listed in a block; raw bytes
 unfoldable pub block_text : List Data → List ℕ
 block_text [] = codes "block"
 block_text (d ∷ ds) = codes "block: " ++ joined (codes ", ") (map data_text (d ∷ ds))
@@ -55,9 +26,6 @@ block_text (d ∷ ds) = codes "block: " ++ joined (codes ", ") (map data_text (d
 unfoldable pub bytes_text : List ℕ → List ℕ
 bytes_text [] = codes "bytes"
 bytes_text (b ∷ bs) = codes "bytes " ++ hex (b ∷ bs)
-
-unfoldable pub entry_text : Past → List ℕ
-entry_text p = decimal p.from ++ (codes " " ++ decimal p.to)
 
 -- the past as a client keeps it, the largest target first, is listed from the least target on
 unfoldable pub past_text : List Past → List ℕ
@@ -85,12 +53,6 @@ request_text (event e) = event_text e
 request_text (may k d) = codes "may " ++ (decimal k ++ (codes ": " ++ data_text d))
 request_text past = codes "past"
 request_text (raw bs) = bytes_text bs
-
--- the first line
-unfoldable pub limits_text : Limits → List ℕ
-limits_text l =
-    codes "clients "
-    ++ (decimal l.clients ++ (codes " me " ++ (decimal l.me ++ (codes " kept " ++ (decimal l.kept ++ (codes " waiting " ++ decimal l.waiting))))))
 
 -- whether data may be decided
 unfoldable pub may_text : Bool → List ℕ

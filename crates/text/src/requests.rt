@@ -1,13 +1,11 @@
 // What a line asks of a client, and as text.
-ghost use Rattle.std.specs.Prelude.{◌≡◌, ℕ, Bool, IfOk, string_bytes};
-ghost use Rattle.protocol.specs.Meaning.{limits_of};
-ghost use Rattle.text.specs.Text.{request_text, limits_text, may_text};
+ghost use Rattle.std.specs.Prelude.{◌≡◌, map, Some};
+ghost use Rattle.std.specs.Fmt.{DisplaysOnOk};
+ghost use Rattle.wire.specs.Meaning.{data_of};
+ghost use Rattle.text.specs.Text.{block_text, bytes_text, request_text, may_text};
 ghost use Rattle.text.specs.Meaning.{request_of};
 
-use crate::lists::{block_text, bytes_text};
-use crate::values::{data_text, duty_text, share_text};
-use protocol::Limits;
-use std::alloc::{AllocError, Global};
+use std::fmt;
 use wire::{Data, Duty, Share};
 
 // An event, or a question, or raw bytes.
@@ -32,47 +30,57 @@ pub enum Request {
 }
 
 // The request as a line.
-pub fn request_text(heap: Global, request: &Request) -> Result<String, AllocError>
-    ensures { IfOk result (λ t. string_bytes t ≡ request_text (request_of request.now)) }
-{
-    match request {
-        Request::OnDuty(duty) => {
-            let text = duty_text(heap, duty)?;
-            format!(in heap; "duty {text}")
+impl fmt::Display for Request {
+    ghost output = { λ q. Some (request_text (request_of q)) };
+
+    #[tactic(auto, unfolding(crate::specs::Meaning::request_of, crate::specs::Text::request_text, crate::specs::Text::event_text))]
+    fn fmt<W: fmt::Write>(&self, f: &mut fmt::Formatter<W>) -> fmt::Result {
+        match self {
+            Request::OnDuty(duty) => write!(f, "duty {duty}"),
+            Request::Decided(slot, what) => write!(f, "decided {slot}: {what}"),
+            Request::ShareCame(share) => write!(f, "share {share}"),
+            Request::Block(listed) => write_block(f, listed.as_slice()),
+            Request::Resend => write!(f, "resend"),
+            Request::May(slot, what) => write!(f, "may {slot}: {what}"),
+            Request::Past => write!(f, "past"),
+            Request::Bytes(bytes) => write_bytes(f, bytes.as_slice()),
         }
-        Request::Decided(slot, what) => {
-            let text = data_text(heap, what)?;
-            format!(in heap; "decided {slot}: {text}")
-        }
-        Request::ShareCame(share) => {
-            let text = share_text(heap, share)?;
-            format!(in heap; "share {text}")
-        }
-        Request::Block(listed) => block_text(heap, listed.as_slice()),
-        Request::Resend => format!(in heap; "resend"),
-        Request::May(slot, what) => {
-            let text = data_text(heap, what)?;
-            format!(in heap; "may {slot}: {text}")
-        }
-        Request::Past => format!(in heap; "past"),
-        Request::Bytes(bytes) => bytes_text(heap, bytes.as_slice()),
     }
 }
 
-// The first line: the limits.
-pub fn limits_text(heap: Global, limits: &Limits) -> Result<String, AllocError>
-    ensures { IfOk result (λ t. (can : ℕ → Bool) → string_bytes t ≡ limits_text (limits_of can limits.now)) }
+// A block's line.
+#[tactic(auto, using(crate::proofs::Listed::block_none))]
+fn write_block<W: fmt::Write>(f: &mut fmt::Formatter<W>, listed: &[Data]) -> fmt::Result
+    ensures { DisplaysOnOk W.write_str_gives f.old result (Some (block_text (map data_of listed.now))) f.new }
 {
-    let Limits {
-        clients,
-        me,
-        kept,
-        waiting,
-    } = *limits;
-    format!(in heap; "clients {clients} me {me} kept {kept} waiting {waiting}")
+    let [first, others @ ..] = listed else {
+        return write!(f, "block");
+    };
+    write!(f, "block: {first}")?;
+    for what in others {
+        write!(f, ", {what}")?;
+    }
+    Ok(())
+}
+
+// The line of raw bytes.
+#[tactic(auto, using(crate::proofs::Listed::bytes_none))]
+fn write_bytes<W: fmt::Write>(f: &mut fmt::Formatter<W>, bytes: &[u8]) -> fmt::Result
+    ensures { DisplaysOnOk W.write_str_gives f.old result (Some (bytes_text bytes.now)) f.new }
+{
+    if bytes.is_empty() {
+        return write!(f, "bytes");
+    }
+    write!(f, "bytes ")?;
+    for byte in bytes {
+        write!(f, "{byte:02x}")?;
+    }
+    Ok(())
 }
 
 // What is answered where it is asked whether data may be decided.
+// Stays: a bool has a Display already, which prints other words, and two words need no type of their own.
+#[tactic(auto, unfolding(crate::specs::Text::may_text))]
 pub fn may_text(may: bool) -> &'static str
     ensures { result.now ≡ may_text may }
 {

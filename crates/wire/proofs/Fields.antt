@@ -1,24 +1,11 @@
 -- Fields that are read one by one, each from its place on, make up a root, a duty, data and a share.
-use Rattle.std.proofs.Common.{◌≡◌, ℕ, ◌+◌, ◌-◌, ◌*◌, ◌<◌, ◌≤◌, List, length, get_or, take, drop, Some, None, Option, unwrap_or, sym, ap, ◌∙◌, arith, length-drop, drop-drop, MatchOption}
-use Rattle.std.proofs.lemmas.List.{take_rest}
+use Rattle.std.proofs.Common.{◌≡◌, ℕ, ◌+◌, ◌*◌, ◌≤◌, List, length, drop, arith, length-drop, drop-drop}
 use Rattle.wire.specs.declared.values.Data.{Data}
 use Rattle.wire.specs.declared.values.Duty.{Duty}
 use Rattle.wire.specs.declared.values.Share.{Share}
 use Rattle.wire.specs.Bytes.{le_value, data_from, duty_from, share_from, part}
 use Rattle.wire.specs.Meaning.{root_of, data_of, duty_of, share_of}
-use Rattle.wire.proofs.Eight.{one_value}
 use Rattle.wire.proofs.Quarters.{quarters_value}
-
--- the part of a slice from a place on
-abbrev from_place : ℕ → List ℕ → List ℕ
-from_place at bs = take (length bs - at) (drop at bs)
-
-pub number_read : (r : Option ℕ) (bs : List ℕ) (at : ℕ) → at + 8 ≤ length bs
-    → MatchOption r (length (from_place at bs) < 8) (λ n. (8 ≤ length (from_place at bs)) × (n ≡ le_value (take 8 (from_place at bs)))) → unwrap_or r 0 ≡ le_value (part at 8 bs)
-number_read None bs at l h =
-    let short : length (drop at bs) < 8 = rw (take_rest bs at) at h in
-    absurd (omega (arith, length-drop at bs))
-number_read (Some n) bs at l h = h.1 ∙ ap (λ (xs : List ℕ). le_value (take 8 xs)) (take_rest bs at)
 
 pub root_read : (bs : List ℕ) (at a b c d : ℕ) → at + 32 ≤ length bs → a ≡ le_value (part at 8 bs) → b ≡ le_value (part (at + 8) 8 bs) → c ≡ le_value (part (at + 16) 8 bs)
     → d ≡ le_value (part (at + 24) 8 bs)
@@ -35,13 +22,16 @@ data_read d bs at slot committee block source source_root target target_root =
     rw
     (drop-drop 8 at bs, drop-drop 16 at bs, drop-drop 48 at bs, drop-drop 56 at bs, drop-drop 88 at bs, drop-drop 96 at bs, slot, committee, block, source, source_root, target, target_root)
 
-pub duty_read : (y : Duty) (bs : List ℕ) → y.slot ≡ le_value (part 0 8 bs) → y.committee ≡ le_value (part 8 8 bs) → y.seat ≡ le_value (part 16 8 bs) → duty_of y ≡ duty_from bs
+pub duty_read : (y : Duty) (bs : List ℕ) (at : ℕ) → y.slot ≡ le_value (part at 8 bs) → y.committee ≡ le_value (part (at + 8) 8 bs)
+    → y.seat ≡ le_value (part (at + 16) 8 bs) → duty_of y ≡ duty_from (drop at bs)
 unfolding duty_of duty_from
-duty_read y bs slot committee seat = rw (slot, committee, seat)
+duty_read y bs at slot committee seat = rw (drop-drop 8 at bs, drop-drop 16 at bs, slot, committee, seat)
 
-pub share_read : (s : Share) (bs : List ℕ) → 1 ≤ length bs → s.who ≡ get_or bs 0 0 → data_of s.what ≡ data_from (drop 1 bs) → s.seat ≡ le_value (part 129 8 bs)
-    → share_of s ≡ share_from bs
+pub decided_read : (k : ℕ) (d : Data) (bs : List ℕ) (at : ℕ) → k ≡ le_value (part at 8 bs) → data_of d ≡ data_from (drop (at + 8) bs)
+    → (k ≡ le_value (part at 8 bs)) × (data_of d ≡ data_from (drop 8 (drop at bs)))
+decided_read k d bs at slot decided = rw (drop-drop 8 at bs) (slot, decided)
+
+pub share_read : (s : Share) (bs : List ℕ) (at : ℕ) → s.who ≡ le_value (part at 1 bs) → data_of s.what ≡ data_from (drop (at + 1) bs) → s.seat ≡ le_value (part (at + 129) 8 bs)
+    → share_of s ≡ share_from (drop at bs)
 unfolding share_of share_from
-share_read s bs l who what seat =
-    let first : s.who ≡ le_value (take 1 bs) = who ∙ sym (one_value bs l) in
-    rw (first, what, seat)
+share_read s bs at who what seat = rw (drop-drop 1 at bs, drop-drop 129 at bs, who, what, seat)

@@ -39,8 +39,11 @@ seven_joined : (front a b c d e f g rest : List ℕ)
     → (((((((front ++ a) ++ b) ++ c) ++ d) ++ e) ++ f) ++ g) ++ rest ≡ front ++ ((a ++ (b ++ (c ++ (d ++ (e ++ (f ++ g)))))) ++ rest)
 seven_joined front a b c d e f g rest = simp append_assoc
 
-three_joined : (a b c rest : List ℕ) → ((a ++ b) ++ c) ++ rest ≡ (a ++ (b ++ c)) ++ rest
-three_joined a b c rest = simp append_assoc
+two_joined : (front a b rest : List ℕ) → ((front ++ a) ++ b) ++ rest ≡ front ++ ((a ++ b) ++ rest)
+two_joined front a b rest = simp append_assoc
+
+three_joined : (front a b c rest : List ℕ) → (((front ++ a) ++ b) ++ c) ++ rest ≡ front ++ ((a ++ (b ++ c)) ++ rest)
+three_joined front a b c rest = simp append_assoc
 
 module _ (xs : List ℕ) where
   pub root_put : {x1 x2 x3 x4 : List ℕ} (at a b c d : ℕ) → at + 32 ≤ length xs → a < 18446744073709551616 → b < 18446744073709551616 → c < 18446744073709551616
@@ -74,22 +77,30 @@ module _ (xs : List ℕ) where
       (le_bytes 32 d.target_root)
       (drop (at + 128) xs)
 
-  pub duty_put : {x1 x2 x3 : List ℕ} (y : defined.Duty) → 24 ≤ length xs
-      → x1 ≡ placed 0 8 (le_bytes 8 y.slot) xs → x2 ≡ placed 8 8 (le_bytes 8 y.committee) x1 → x3 ≡ placed 16 8 (le_bytes 8 y.seat) x2
-      → x3 ≡ duty_bytes y ++ drop 24 xs
+  pub duty_put : {x1 x2 x3 : List ℕ} (at : ℕ) (y : defined.Duty) → at + 24 ≤ length xs
+      → x1 ≡ placed at 8 (le_bytes 8 y.slot) xs → x2 ≡ placed (at + 8) 8 (le_bytes 8 y.committee) x1 → x3 ≡ placed (at + 16) 8 (le_bytes 8 y.seat) x2
+      → x3 ≡ placed at 24 (duty_bytes y) xs
   unfolding duty_bytes
-  duty_put y l e1 e2 e3 =
-      let f1 = put_next 8 8 (le_bytes 8 y.slot) (not_yet xs 0 (omega arith)) (omega arith) e1 (length_le_bytes 8 y.slot) in
-      let f2 = put_next 8 16 (le_bytes 8 y.committee) f1 (omega arith) e2 (length_le_bytes 8 y.committee) in
-      let f3 = put_next 8 24 (le_bytes 8 y.seat) f2 (omega arith) e3 (length_le_bytes 8 y.seat) in
-      f3.holds ∙ three_joined (le_bytes 8 y.slot) (le_bytes 8 y.committee) (le_bytes 8 y.seat) (drop 24 xs)
+  duty_put at y l e1 e2 e3 =
+      let f1 = put_next 8 (at + 8) (le_bytes 8 y.slot) (not_yet xs at (omega arith)) (omega arith) e1 (length_le_bytes 8 y.slot) in
+      let f2 = put_next 8 (at + 16) (le_bytes 8 y.committee) f1 (omega arith) e2 (length_le_bytes 8 y.committee) in
+      let f3 = put_next 8 (at + 24) (le_bytes 8 y.seat) f2 (omega arith) e3 (length_le_bytes 8 y.seat) in
+      f3.holds ∙ three_joined (take at xs) (le_bytes 8 y.slot) (le_bytes 8 y.committee) (le_bytes 8 y.seat) (drop (at + 24) xs)
 
-  pub share_put : {x1 x2 x3 : List ℕ} (s : client.Share) → 137 ≤ length xs
-      → x1 ≡ placed 0 1 (le_bytes 1 s.who) xs → x2 ≡ placed 1 128 (data_bytes s.what) x1 → x3 ≡ placed 129 8 (le_bytes 8 s.seat) x2
-      → x3 ≡ share_bytes s ++ drop 137 xs
+  pub decided_put : {x1 x2 : List ℕ} (at k : ℕ) (d : defined.Data) → at + 136 ≤ length xs
+      → x1 ≡ placed at 8 (le_bytes 8 k) xs → x2 ≡ placed (at + 8) 128 (data_bytes d) x1
+      → x2 ≡ placed at 136 (le_bytes 8 k ++ data_bytes d) xs
+  decided_put at k d l e1 e2 =
+      let f1 = put_next 8 (at + 8) (le_bytes 8 k) (not_yet xs at (omega arith)) (omega arith) e1 (length_le_bytes 8 k) in
+      let f2 = put_next 128 (at + 136) (data_bytes d) f1 (omega arith) e2 (data_coding.long d) in
+      f2.holds ∙ two_joined (take at xs) (le_bytes 8 k) (data_bytes d) (drop (at + 136) xs)
+
+  pub share_put : {x1 x2 x3 : List ℕ} (at : ℕ) (s : client.Share) → at + 137 ≤ length xs
+      → x1 ≡ placed at 1 (le_bytes 1 s.who) xs → x2 ≡ placed (at + 1) 128 (data_bytes s.what) x1 → x3 ≡ placed (at + 129) 8 (le_bytes 8 s.seat) x2
+      → x3 ≡ placed at 137 (share_bytes s) xs
   unfolding share_bytes
-  share_put s l e1 e2 e3 =
-      let f1 = put_next 1 1 (le_bytes 1 s.who) (not_yet xs 0 (omega arith)) (omega arith) e1 (length_le_bytes 1 s.who) in
-      let f2 = put_next 128 129 (data_bytes s.what) f1 (omega arith) e2 (data_coding.long s.what) in
-      let f3 = put_next 8 137 (le_bytes 8 s.seat) f2 (omega arith) e3 (length_le_bytes 8 s.seat) in
-      f3.holds ∙ three_joined (le_bytes 1 s.who) (data_bytes s.what) (le_bytes 8 s.seat) (drop 137 xs)
+  share_put at s l e1 e2 e3 =
+      let f1 = put_next 1 (at + 1) (le_bytes 1 s.who) (not_yet xs at (omega arith)) (omega arith) e1 (length_le_bytes 1 s.who) in
+      let f2 = put_next 128 (at + 129) (data_bytes s.what) f1 (omega arith) e2 (data_coding.long s.what) in
+      let f3 = put_next 8 (at + 137) (le_bytes 8 s.seat) f2 (omega arith) e3 (length_le_bytes 8 s.seat) in
+      f3.holds ∙ three_joined (take at xs) (le_bytes 1 s.who) (data_bytes s.what) (le_bytes 8 s.seat) (drop (at + 137) xs)

@@ -1,3 +1,4 @@
+mod Digits
 mod Eight
 mod Fields
 mod Filled

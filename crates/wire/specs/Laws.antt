@@ -1,5 +1,5 @@
 -- The laws of the bytes of slots, data, duties and shares: each is a coding (Coding.antt), with its size, and with the test that says which values its bytes can carry.
-use Rattle.std.specs.Prelude.{◌≡◌, ℕ, ◌<◌, true, List, take, slice_index, refl}
+use Rattle.std.specs.Prelude.{◌≡◌, ℕ, ◌<◌, true, List, ◌++◌, take, drop, slice_index, refl}
 use Rattle.std.proofs.Common.{arith, drop-drop, Fits}
 use Rattle.std.specs.Int.{w8}
 use Rattle.std.proofs.ByRecursion.{All-from_get_or}
@@ -58,6 +58,10 @@ data_coding =
     (λ bs. rw (drop-drop 8 8 bs, drop-drop 32 16 bs, drop-drop 8 48 bs, drop-drop 32 56 bs, drop-drop 8 88 bs))
     (λ d h. grind (arith, nat_tests))
     (λ p h. grind (arith, nat_tests))
+
+-- a slot, and the data decided for it
+pub decided_coding : Coding (ℕ × Data) 136 (λ p. le_bytes 8 p.0 ++ data_bytes p.1) (λ bs. (le_value (take 8 bs), data_from (drop 8 bs))) (λ p. (eight p.0 ≡ true) × (carried p.1 ≡ true))
+decided_coding = both eight_coding data_coding
 
 pub share_coding : Coding Share 137 share_bytes share_from (λ s. readable (share s) ≡ true)
 unfolding share_bytes share_from readable

@@ -4,3 +4,4 @@ pub mod Fixed
 pub mod Meaning
 pub mod Laws
 pub mod CodingLemmas
+pub mod Text

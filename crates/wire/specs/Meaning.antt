@@ -6,6 +6,7 @@ use Rattle.wire.specs.declared.values.Root.{Root}
 use Rattle.wire.specs.declared.values.Data.{Data}
 use Rattle.wire.specs.declared.values.Duty.{Duty}
 use Rattle.wire.specs.declared.values.Share.{Share}
+use Rattle.wire.specs.declared.values.Entry.{Entry}
 
 -- a root, of four numbers, the lowest first
 unfoldable pub root_of : Root → ℕ
@@ -28,3 +29,6 @@ duty_of y = record { slot = y.slot; committee = y.committee; seat = y.seat }
 
 unfoldable pub share_of : Share → client.Share
 share_of s = record { who = s.who; what = data_of s.what; seat = s.seat }
+
+unfoldable pub entry_of : Entry → defined.Past
+entry_of e = record { from = e.source; to = e.target }

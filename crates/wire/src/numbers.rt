@@ -4,8 +4,7 @@ ghost use Rattle.wire.specs.Bytes.{le_bytes, le_value};
 ghost use Rattle.wire.specs.CodingLemmas.{length_le_bytes};
 ghost use Rattle.std.proofs.Common.{rules};
 
-use crate::fixed::{Fixed, Short};
-use crate::places::{put_byte, put_number};
+use crate::fixed::Fixed;
 
 impl Fixed for u8 {
     ghost width = { 1 };
@@ -22,19 +21,14 @@ impl Fixed for u8 {
         1
     }
 
-    fn read(bytes: &[u8]) -> Option<u8> {
-        let [byte, ..] = bytes else {
-            return None;
-        };
-        Some(*byte)
+    #[tactic(auto, using(crate::proofs::Eight::one_value))]
+    fn at(bytes: &[u8], place: usize) -> u8 {
+        bytes[place]
     }
 
-    fn write(&self, out: &mut [u8]) -> Result<usize, Short> {
-        if out.len() < 1 {
-            return Err(Short);
-        }
-        put_byte(out, 0, *self);
-        Ok(1)
+    #[tactic(auto, using(crate::proofs::Eight::put_one))]
+    fn put(&self, out: &mut [u8], place: usize) {
+        out[place] = *self;
     }
 }
 
@@ -53,18 +47,13 @@ impl Fixed for u64 {
         8
     }
 
-    fn read(bytes: &[u8]) -> Option<u64> {
-        let [b0, b1, b2, b3, b4, b5, b6, b7, ..] = bytes else {
-            return None;
-        };
-        Some(u64::from_le_bytes([*b0, *b1, *b2, *b3, *b4, *b5, *b6, *b7]))
+    #[tactic(auto, using(crate::proofs::Eight::eight_read))]
+    fn at(bytes: &[u8], place: usize) -> u64 {
+        u64::from_le_bytes(*bytes[place..].first_chunk().unwrap())
     }
 
-    fn write(&self, out: &mut [u8]) -> Result<usize, Short> {
-        if out.len() < 8 {
-            return Err(Short);
-        }
-        put_number(out, 0, *self);
-        Ok(8)
+    #[tactic(auto, using(crate::proofs::Eight::put_eight, crate::proofs::Eight::eight_bytes))]
+    fn put(&self, out: &mut [u8], place: usize) {
+        out[place..place + 8].copy_from_slice(&self.to_le_bytes());
     }
 }

@@ -5,8 +5,7 @@ ghost use Rattle.wire.specs.Meaning.{root_of};
 ghost use Rattle.wire.specs.CodingLemmas.{length_le_bytes};
 ghost use Rattle.std.proofs.Common.{rules};
 
-use crate::fixed::{Fixed, Short};
-use crate::places::{put_root, root_at};
+use crate::fixed::Fixed;
 use crate::values::Root;
 
 impl Fixed for Root {
@@ -24,18 +23,21 @@ impl Fixed for Root {
         32
     }
 
-    fn read(bytes: &[u8]) -> Option<Root> {
-        if bytes.len() < 32 {
-            return None;
+    #[tactic(auto, using(crate::proofs::Fields::root_read), unfolding(crate::specs::Meaning::root_of))]
+    fn at(bytes: &[u8], place: usize) -> Root {
+        Root {
+            first: u64::at(bytes, place),
+            second: u64::at(bytes, place + 8),
+            third: u64::at(bytes, place + 16),
+            fourth: u64::at(bytes, place + 24),
         }
-        Some(root_at(bytes, 0))
     }
 
-    fn write(&self, out: &mut [u8]) -> Result<usize, Short> {
-        if out.len() < 32 {
-            return Err(Short);
-        }
-        put_root(out, 0, *self);
-        Ok(32)
+    #[tactic(auto, using(crate::proofs::Filled::root_put), unfolding(crate::specs::Meaning::root_of))]
+    fn put(&self, out: &mut [u8], place: usize) {
+        self.first.put(out, place);
+        self.second.put(out, place + 8);
+        self.third.put(out, place + 16);
+        self.fourth.put(out, place + 24);
     }
 }

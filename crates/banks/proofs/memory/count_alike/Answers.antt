@@ -1,15 +1,17 @@
-use Rattle.layout.specs.Layout.{sizes}
-use Rattle.banks.proofs.Bounds.{bank_fits}
-use Rattle.banks.proofs.Held.{celled, cells_lent}
+use Rattle.std.proofs.Common.{ℕ, ◌/◌, eqb, List, length, ap, ap₂, ◌∙◌}
+use lib.Pointwise.{pointwise}
+use Rattle.std.specs.List.{filter}
+use Rattle.std.specs.Simd.{first_chunks}
+use Rattle.wire.specs.Meaning.{data_of}
+use Rattle.stored.specs.Stored.{bank_at}
+use Rattle.stored.specs.Numbers.{cell_numbers}
+use Rattle.banks.proofs.Alike.{same_count, cut_out}
 use Rattle.banks.proofs.memory.count_alike.Goals as goal
 
-pub count_alike-requires : goal.count_alike-requires
-count_alike-requires c = bank_fits (sizes c.args.layout.now) c.span-start.result c.args.place c.args.memory.now c.span-start.ensures c.requires.0 c.requires.1
-
-pub returns : goal.returns
-returns c =
-    record {
-      within = c.count_alike.ensures.within;
-      counted =
-          λ t h. c.count_alike.ensures.counted t.banks (celled (sizes c.args.layout.now) c.args.memory.now t h) (cells_lent (sizes c.args.layout.now) c.span-start.result c.args.memory.now t h c.span-start.ensures);
-    }
+pub returns-clause-counted : goal.returns-clause-counted
+unfolding cell_numbers
+returns-clause-counted c t h =
+    let cs = (bank_at t.banks c.args.place).cells in
+    c.count_same.ensures.counted
+    ∙ ap₂ (λ (wanted : List ℕ) (cells : List (List ℕ)). length (filter (λ cell. pointwise eqb cell wanted) cells)) c.share_numbers-wanted.ensures (c.as_chunks.ensures.front ∙ ap (λ (xs : List ℕ). first_chunks 18 (length xs / 18) xs) (c.cells.ensures.shown t h) ∙ cut_out cs)
+    ∙ same_count c.args.seat (data_of c.args.data.now) cs

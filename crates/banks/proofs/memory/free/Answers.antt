@@ -1,23 +1,20 @@
--- Cleared and its mark gone, or no bank is the slot's.
-use Rattle.std.proofs.Common.{List, replicate, subst, arith}
-use Rattle.stored.specs.Stored.{Bank, empty, Sizes, with_banks, with_cells}
-use Rattle.stored.specs.Kept.{Held}
+-- Cleared and its mark gone.
+use Rattle.std.proofs.Common.{List, subst, ◌∙◌, arith}
+use Rattle.stored.specs.Stored.{Bank, with_banks}
 use Rattle.layout.specs.Layout.{sizes}
-use Rattle.banks.proofs.Changed.{freed_so, freed_none}
+use Rattle.layout.specs.Memory.{Holds}
+use Rattle.banks.proofs.Changed.{freed_so}
 use Rattle.banks.proofs.Held.{many_banks}
 use Rattle.banks.proofs.memory.free.Goals as goal
 
-pub returns-then-place-layout : goal.returns-then-place-layout
-returns-then-place-layout c t h =
-    let z : Sizes = sizes c.args.layout.now in
-    let cleared : List Bank = with_cells t.banks c.place_with-place.result (replicate t.sizes.clients empty) in
-    subst (λ (bs : List Bank). Held z c.set_mark.new.memory (with_banks bs t))
-    (freed_so t.sizes.clients c.args.slot c.place_with-place.result t.banks (c.place_with-place.ensures.first t h) (omega (arith, many_banks z c.args.memory.now t h)))
-    (c.set_mark.ensures (with_banks cleared t) (c.clear.ensures t h))
-
-pub returns-else-place-layout : goal.returns-else-place-layout
-returns-else-place-layout c t h =
-    let z : Sizes = sizes c.args.layout.now in
-    subst (λ (bs : List Bank). Held z c.args.memory.now (with_banks bs t))
-    (freed_none t.sizes.clients c.args.slot c.place_with-place.result t.banks (c.place_with-place.ensures.first t h) (omega (arith, many_banks z c.args.memory.now t h)))
-    h
+pub returns-in-Some : goal.returns-in-Some
+returns-in-Some c =
+    let v = c.view.result in
+    record {
+      layout = c.set_mark.ensures.layout ∙ c.clear.ensures.layout;
+      lent = c.set_mark.ensures.lent ∙ c.clear.ensures.lent;
+      holds =
+          λ t h. subst (λ (bs : List Bank). Holds c.set_mark.new.memory (with_banks bs t))
+          (freed_so t.sizes.clients c.args.slot c.in-Some.place t.banks (c.in-Some.ensures.first t (c.view.ensures.shows t h)) (omega (arith, c.in-Some.ensures.within, many_banks (sizes v.layout) v.numbers.now t (c.view.ensures.shows t h))))
+          (c.set_mark.ensures.holds _ (c.clear.ensures.holds t h));
+    }

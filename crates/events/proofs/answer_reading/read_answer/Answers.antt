@@ -1,48 +1,45 @@
-use Rattle.std.proofs.Common.{◌≡◌, ℕ, ◌<◌, ◌≤◌, List, [], ◌∷◌, length, get_or, drop, None, sym, refl, ap, ◌∙◌, arith, ltb-false, ltb-true}
-use Rattle.std.proofs.lemmas.List.{take_rest, nil_from_length}
+use Rattle.std.proofs.Common.{◌≡◌, ℕ, ◌≤◌, List, ◌∷◌, None, sym, ◌∙◌, arith}
+use Rattle.std.proofs.lemmas.List.{nil_from_length}
 use Rattle.std.proofs.lemmas.Bool.{ne_eqb}
 use Rattle.protocol.specs.Data.{pick}
-use Rattle.events.specs.Layout.{parse_answer, parse_refused, parse_done}
+use Rattle.events.specs.Kinds.{answer_kind}
+use Rattle.events.specs.Layout.{parse_answer}
 use Rattle.events.specs.Reading.{answer_read}
+use Rattle.events.specs.declared.kind.AnswerKind.{AnswerKind}
+use Rattle.events.specs.declared.kind.AnswerKind.TheVariants.{Refused, Done}
 use Rattle.events.proofs.ExactRows.{answer_without}
+use Rattle.events.proofs.HandedOn.{err_from_ok, ok_from_ok}
 use Rattle.events.proofs.answer_reading.read_answer.Goals as goal
 
-by_first : (bs : List ℕ) (n : ℕ) → 0 < length bs → get_or bs 0 0 ≡ n → parse_answer bs ≡ parse_answer (n ∷ drop 1 bs)
-by_first [] n l e = absurd (omega arith)
-by_first (b ∷ bs) n l e = ap (λ m. parse_answer (m ∷ bs)) e
+-- which answer bytes are, by the number in front
+by_kind : (bs rest : List ℕ) (n : ℕ) (k k' : AnswerKind) → bs ≡ n ∷ rest → answer_kind k ≡ n → k ≡ k' → parse_answer bs ≡ parse_answer (answer_kind k' ∷ rest)
+by_kind bs rest n k k' p q e = rw (p, sym q, e)
 
-neither : (n : ℕ) (bs : List ℕ) → 2 ≤ n → parse_answer (n ∷ bs) ≡ None
+by_no_kind : (bs rest : List ℕ) (n : ℕ) → bs ≡ n ∷ rest → 2 ≤ n → parse_answer bs ≡ None
 unfolding parse_answer pick
-neither n bs h =
-    let not-refused = ne_eqb n 0 (omega arith) in
-    let not_done = ne_eqb n 1 (omega arith) in
-    rw (not-refused, not_done)
+by_no_kind bs rest n p h = rw (p, ne_eqb n 0 (omega arith), ne_eqb n 1 (omega arith))
 
-pub returns-in_default : goal.returns-in_default
+pub returns-in_err-number-clause-answer : goal.returns-in_err-number-clause-answer
 unfolding answer_read parse_answer
-returns-in_default c = record { answer = rw (nil_from_length c.args.bytes.now (omega (arith, ltb-true, ltb-false))); exact = tt }
+returns-in_err-number-clause-answer c = rw (c.from_residual.ensures, nil_from_length c.args.bytes.now c.in_err-number.ensures.cases)
 
-pub returns-in-0 : goal.returns-in-0
-unfolding parse_answer pick
-returns-in-0 c =
-    let bs = c.args.bytes.now in
-    record {
-      answer = c.read_refused.ensures ∙ ap parse_refused (take_rest bs 1) ∙ sym (by_first bs 0 (omega (arith, ltb-true, ltb-false)) c.in-0.is);
-      exact = answer_without c.read_refused.result _ c.read_refused.ensures;
-    }
-
-pub returns-in-1 : goal.returns-in-1
-unfolding parse_answer pick
-returns-in-1 c =
-    let bs = c.args.bytes.now in
-    record {
-      answer = c.read_done.ensures.answer ∙ ap parse_done (take_rest bs 1) ∙ sym (by_first bs 1 (omega (arith, ltb-true, ltb-false)) c.in-1.is);
-      exact = c.read_done.ensures.exact;
-    }
-
-pub returns-in_default-number : goal.returns-in_default-number
+pub returns-in_err-ok-clause-answer : goal.returns-in_err-ok-clause-answer
 unfolding answer_read
-returns-in_default-number c =
-    let bs = c.args.bytes.now in
-    let unknown : 2 ≤ get_or bs 0 0 = omega arith in
-    record { answer = sym (by_first bs (get_or bs 0 0) (omega (arith, ltb-true, ltb-false)) refl ∙ neither (get_or bs 0 0) (drop 1 bs) unknown); exact = tt }
+returns-in_err-ok-clause-answer c =
+    let more = err_from_ok c.try_from.result _ _ (sym c.ok.ensures.value ∙ c.in_err-ok.was) c.try_from.ensures in
+    rw c.from_residual-in_err-ok.ensures (sym (by_no_kind c.args.bytes.now _ _ c.in_ok-number.ensures.cases.0 more.1))
+
+pub returns-in-Refused-clause-answer : goal.returns-in-Refused-clause-answer
+unfolding parse_answer pick
+returns-in-Refused-clause-answer c =
+    let kind = ok_from_ok c.try_from.result _ _ (sym c.ok.ensures.value ∙ c.in_ok-ok.was) c.try_from.ensures in
+    c.read_refused.ensures ∙ sym (by_kind c.args.bytes.now _ _ _ Refused c.in_ok-number.ensures.cases.0 kind c.in-Refused.is)
+
+pub returns-in-Refused-clause-exact : goal.returns-in-Refused-clause-exact
+returns-in-Refused-clause-exact c = answer_without c.read_refused.result _ c.read_refused.ensures
+
+pub returns-in-Done-clause-answer : goal.returns-in-Done-clause-answer
+unfolding parse_answer pick
+returns-in-Done-clause-answer c =
+    let kind = ok_from_ok c.try_from.result _ _ (sym c.ok.ensures.value ∙ c.in_ok-ok.was) c.try_from.ensures in
+    c.read_done.ensures.answer ∙ sym (by_kind c.args.bytes.now _ _ _ Done c.in_ok-number.ensures.cases.0 kind c.in-Done.is)

@@ -1,60 +1,103 @@
-use Rattle.std.proofs.Common.{◌≡◌, ◌≤◌, [], get_or, take, drop, Err, sym, ◌∙◌, arith, drop-drop, ltb-false, ltb-true}
+use Rattle.std.proofs.Common.{drop, take, Ok, sym, refl, ap, ◌∙◌, ap₂, arith}
 use Rattle.std.proofs.lemmas.List.{nil_from_length}
 use Rattle.protocol.specs.Data.{pick}
 use Rattle.protocol.specs.Client.{duty, decided, share, resend, event_number}
 use Rattle.wire.specs.Bytes.{le_value, data_from, duty_from, share_from}
+use Rattle.events.specs.declared.kind.EventKind.TheVariants.{Duty, Decided, Share, Block, Resend}
+use Rattle.events.specs.declared.event.Event.TheVariants.{OnDuty, Decided as EventDecided, ShareCame}
 use Rattle.events.specs.Layout.{parse}
+use Rattle.events.specs.Meaning.{event_of}
 use Rattle.events.specs.Reading.{read_as}
-use Rattle.events.proofs.ByNumber.{by_first, first_unknown, read_all}
+use Rattle.events.proofs.ByNumber.{by_kind, by_no_kind, read_all, read_none}
 use Rattle.events.proofs.ExactRows.{event_without}
+use Rattle.events.proofs.HandedOn.{none_from_err, some_from_ok, no_event, no_event_by}
 use Rattle.events.proofs.event_reading.read_event.Goals as goal
 
-pub returns-in_default : goal.returns-in_default
-unfolding read_as parse
-returns-in_default c =
-    let none : c.args.bytes.now ≡ [] = nil_from_length c.args.bytes.now (omega (arith, ltb-true, ltb-false)) in
-    read_all c.args.bytes.now c.type_inv.bytes c.well_formed.0.0 (Err (record { place = 0 })) (rw none) tt
+pub returns-in_err-number : goal.returns-in_err-number
+unfolding parse
+returns-in_err-number c =
+    let none = none_from_err c.split_first.result _ (sym c.ok_or.ensures.value ∙ c.in_err-number.was) in
+    let empty = nil_from_length c.args.bytes.now (rw none.0 at c.split_first.ensures.cases) in
+    read_none c.args.bytes.now c.type_inv.bytes c.well_formed.0.0 _ c.from_residual.ensures.0
+    (no_event _ 0 c.from_residual.ensures ∙ rw empty)
 
-pub returns-in-0 : goal.returns-in-0
-unfolding parse pick event_number
-returns-in-0 c =
-    read_all c.args.bytes.now c.type_inv.bytes (omega arith) c.read_duty.result
-    (c.read_duty.ensures ∙ sym (by_first c.args.bytes.now 0 (omega (arith, ltb-true, ltb-false)) c.in-0.is))
-    (event_without c.read_duty.result 1 24 (drop 1 c.args.bytes.now) (duty (duty_from (drop 1 c.args.bytes.now))) c.read_duty.ensures (λ p. omega arith))
+pub returns-in_err-try_from : goal.returns-in_err-try_from
+returns-in_err-try_from c =
+    let first = rw (some_from_ok c.split_first.result _ (sym c.ok_or.ensures.value ∙ c.in_ok-number.was)) at c.split_first.ensures.cases in
+    read_none c.args.bytes.now c.type_inv.bytes c.well_formed.0.0 _ c.from_residual-in_err-try_from.ensures.0
+    (no_event _ 0 c.from_residual-in_err-try_from.ensures ∙ sym (by_no_kind c.args.bytes.now _ _ first.0 c.in_err-try_from.ensures))
 
-pub returns-in-1 : goal.returns-in-1
-unfolding parse pick event_number
-returns-in-1 c =
-    let bs = c.args.bytes.now in
-    read_all bs c.type_inv.bytes (omega arith) c.read_decided.result
-    (c.read_decided.ensures ∙ rw (sym (drop-drop 8 1 bs)) (sym (by_first bs 1 (omega (arith, ltb-true, ltb-false)) c.in-1.is)))
-    (event_without c.read_decided.result 1 136 (drop 1 bs) (decided (le_value (take 8 (drop 1 bs))) (data_from (drop 9 bs))) c.read_decided.ensures (λ p. omega arith))
-
-pub returns-in-2 : goal.returns-in-2
-unfolding parse pick event_number
-returns-in-2 c =
-    read_all c.args.bytes.now c.type_inv.bytes (omega arith) c.read_share.result
-    (c.read_share.ensures ∙ sym (by_first c.args.bytes.now 2 (omega (arith, ltb-true, ltb-false)) c.in-2.is))
-    (event_without c.read_share.result 1 137 (drop 1 c.args.bytes.now) (share (share_from (drop 1 c.args.bytes.now))) c.read_share.ensures (λ p. omega arith))
-
-pub returns-in-3 : goal.returns-in-3
+pub returns-in_err-last-in-Duty : goal.returns-in_err-last-in-Duty
 unfolding parse pick
-returns-in-3 c =
-    read_all c.args.bytes.now c.type_inv.bytes (omega arith) c.read_block.result
-    (c.read_block.ensures.event ∙ sym (by_first c.args.bytes.now 3 (omega (arith, ltb-true, ltb-false)) c.in-3.is))
+returns-in_err-last-in-Duty c =
+    let bs = c.args.bytes.now in
+    let first = rw (some_from_ok c.split_first.result _ (sym c.ok_or.ensures.value ∙ c.in_ok-number.was)) at c.split_first.ensures.cases in
+    let residual = c.from_residual-in_err-last-in-Duty.ensures in
+    read_none bs c.type_inv.bytes c.well_formed.0.0 _ residual.0
+    (no_event_by _ _ _ residual refl ∙ sym (by_kind bs _ _ _ Duty first.0 c.in_ok-try_from.ensures c.in-Duty.is ∙ c.in_err-last-in-Duty.ensures (duty (duty_from (drop 1 bs)))))
+
+pub returns-in_ok-last-in-Duty : goal.returns-in_ok-last-in-Duty
+unfolding parse pick read_as event_of
+returns-in_ok-last-in-Duty c =
+    let bs = c.args.bytes.now in
+    let first = rw (some_from_ok c.split_first.result _ (sym c.ok_or.ensures.value ∙ c.in_ok-number.was)) at c.split_first.ensures.cases in
+    let read = c.in_ok-last-in-Duty.ensures in
+    read_all bs c.type_inv.bytes c.well_formed.0.0 (Ok (OnDuty c.in_ok-last-in-Duty.field-0))
+    (ap duty read.0 ∙ sym (by_kind bs _ _ _ Duty first.0 c.in_ok-try_from.ensures c.in-Duty.is ∙ read.1 (duty (duty_from (drop 1 bs)))))
+    tt
+
+pub returns-in_err-slot-in-Decided : goal.returns-in_err-slot-in-Decided
+unfolding parse pick
+returns-in_err-slot-in-Decided c =
+    let bs = c.args.bytes.now in
+    let first = rw (some_from_ok c.split_first.result _ (sym c.ok_or.ensures.value ∙ c.in_ok-number.was)) at c.split_first.ensures.cases in
+    let residual = c.from_residual-in_err-slot-in-Decided.ensures in
+    read_none bs c.type_inv.bytes c.well_formed.0.0 _ residual.0
+    (no_event_by _ _ _ residual refl ∙ sym (by_kind bs _ _ _ Decided first.0 c.in_ok-try_from.ensures c.in-Decided.is ∙ c.in_err-slot-in-Decided.ensures (decided (le_value (take 8 (drop 1 bs))) (data_from (drop 8 (drop 1 bs))))))
+
+pub returns-in_ok-slot-in-Decided : goal.returns-in_ok-slot-in-Decided
+unfolding parse pick read_as event_of
+returns-in_ok-slot-in-Decided c =
+    let bs = c.args.bytes.now in
+    let first = rw (some_from_ok c.split_first.result _ (sym c.ok_or.ensures.value ∙ c.in_ok-number.was)) at c.split_first.ensures.cases in
+    let read = c.in_ok-slot-in-Decided.ensures in
+    read_all bs c.type_inv.bytes c.well_formed.0.0 (Ok (EventDecided c.in_ok-slot-in-Decided.slot c.in_ok-slot-in-Decided.data))
+    (ap₂ decided read.0.0 read.0.1 ∙ sym (by_kind bs _ _ _ Decided first.0 c.in_ok-try_from.ensures c.in-Decided.is ∙ read.1 (decided (le_value (take 8 (drop 1 bs))) (data_from (drop 8 (drop 1 bs))))))
+    tt
+
+pub returns-in_err-last-in-Share : goal.returns-in_err-last-in-Share
+unfolding parse pick
+returns-in_err-last-in-Share c =
+    let bs = c.args.bytes.now in
+    let first = rw (some_from_ok c.split_first.result _ (sym c.ok_or.ensures.value ∙ c.in_ok-number.was)) at c.split_first.ensures.cases in
+    let residual = c.from_residual-in_err-last-in-Share.ensures in
+    read_none bs c.type_inv.bytes c.well_formed.0.0 _ residual.0
+    (no_event_by _ _ _ residual refl ∙ sym (by_kind bs _ _ _ Share first.0 c.in_ok-try_from.ensures c.in-Share.is ∙ c.in_err-last-in-Share.ensures (share (share_from (drop 1 bs)))))
+
+pub returns-in_ok-last-in-Share : goal.returns-in_ok-last-in-Share
+unfolding parse pick read_as event_of
+returns-in_ok-last-in-Share c =
+    let bs = c.args.bytes.now in
+    let first = rw (some_from_ok c.split_first.result _ (sym c.ok_or.ensures.value ∙ c.in_ok-number.was)) at c.split_first.ensures.cases in
+    let read = c.in_ok-last-in-Share.ensures in
+    read_all bs c.type_inv.bytes c.well_formed.0.0 (Ok (ShareCame c.in_ok-last-in-Share.field-0))
+    (ap share read.0 ∙ sym (by_kind bs _ _ _ Share first.0 c.in_ok-try_from.ensures c.in-Share.is ∙ read.1 (share (share_from (drop 1 bs)))))
+    tt
+
+pub returns-in-Block : goal.returns-in-Block
+unfolding parse pick
+returns-in-Block c =
+    let bs = c.args.bytes.now in
+    let first = rw (some_from_ok c.split_first.result _ (sym c.ok_or.ensures.value ∙ c.in_ok-number.was)) at c.split_first.ensures.cases in
+    read_all bs c.type_inv.bytes c.well_formed.0.0 c.read_block.result
+    (c.read_block.ensures.event ∙ sym (by_kind bs _ _ _ Block first.0 c.in_ok-try_from.ensures c.in-Block.is))
     c.read_block.ensures.exact
 
-pub returns-in-4 : goal.returns-in-4
+pub returns-in-Resend : goal.returns-in-Resend
 unfolding parse pick event_number
-returns-in-4 c =
-    read_all c.args.bytes.now c.type_inv.bytes (omega arith) c.read_resend.result
-    (c.read_resend.ensures ∙ sym (by_first c.args.bytes.now 4 (omega (arith, ltb-true, ltb-false)) c.in-4.is))
-    (event_without c.read_resend.result 1 0 (drop 1 c.args.bytes.now) resend c.read_resend.ensures (λ p. omega arith))
-
-pub returns-in_default-number : goal.returns-in_default-number
-unfolding read_as
-returns-in_default-number c =
-    let unknown : 5 ≤ get_or c.args.bytes.now 0 0 = omega arith in
-    read_all c.args.bytes.now c.type_inv.bytes (omega arith) (Err (record { place = 0 }))
-    (sym (first_unknown c.args.bytes.now (omega (arith, ltb-true, ltb-false)) unknown))
-    tt
+returns-in-Resend c =
+    let bs = c.args.bytes.now in
+    let first = rw (some_from_ok c.split_first.result _ (sym c.ok_or.ensures.value ∙ c.in_ok-number.was)) at c.split_first.ensures.cases in
+    read_all bs c.type_inv.bytes c.well_formed.0.0 c.read_resend.result
+    (c.read_resend.ensures ∙ sym (by_kind bs _ _ _ Resend first.0 c.in_ok-try_from.ensures c.in-Resend.is))
+    (event_without c.read_resend.result 1 0 (drop 1 bs) resend c.read_resend.ensures (λ p. omega arith))

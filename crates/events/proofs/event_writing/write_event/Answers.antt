@@ -16,9 +16,9 @@ unfolding event_bytes event_of
 returns-in-OnDuty c = of-case c.args.out.now c.write_one.new.out c.write_one.result c.in-OnDuty.is c.write_one.ensures
 
 pub returns-in-Decided : goal.returns-in-Decided
-unfolding event_of
+unfolding event_bytes event_of
 returns-in-Decided c =
-    of-case c.args.out.now c.write_decided.new.out c.write_decided.result c.in-Decided.is c.write_decided.ensures
+    of-case c.args.out.now c.write_one-in-Decided.new.out c.write_one-in-Decided.result c.in-Decided.is c.write_one-in-Decided.ensures
 
 pub returns-in-ShareCame : goal.returns-in-ShareCame
 unfolding event_bytes event_of

@@ -9,4 +9,4 @@ returns-then-out-lt1 c = (refl, record { short = c.if-out-lt1.true; kept = refl 
 
 pub returns : goal.returns
 unfolding event_bytes
-returns c = (refl, laid_written 1 1 (lay_byte c.args.out.now 4 c.if-out-lt1.false) refl refl)
+returns c = rw c.from.ensures (refl, laid_written 1 1 (lay_byte c.args.out.now 4 c.if-out-lt1.false) refl refl)

@@ -1,9 +1,9 @@
--- The entries before the i-th have larger targets.
-use Rattle.std.proofs.Common.{◌≡◌}
+-- The entries before the place have larger targets.
+use Rattle.std.proofs.Common.{◌≡◌, map}
 use Rattle.protocol.specs.Data.{Past}
-use Rattle.past.specs.Past.{entries}
+use Rattle.past.specs.Past.{entry_of}
 use Rattle.past.proofs.Places.{Passed}
 use Rattle.past.proofs.history.place_for.Given as goal
 
-abbrev pub invariant-loop-i : goal.invariant-loop-i
-invariant-loop-i l = (p : Past) → p.to ≡ l.target → Passed p (entries l.count l.region) l.i
+abbrev pub invariant-loop-place : goal.invariant-loop-place
+invariant-loop-place l = (p : Past) → p.to ≡ l.target → Passed p (map entry_of l.kept) l.place

@@ -1,9 +1,10 @@
--- The entries from the i-th on have been looked at, the last one first; the very first one is left for the end.
-use Rattle.std.proofs.Common.{◌≤◌, drop}
-use Rattle.past.specs.Past.{entry, meant, entries}
+-- What was folded so far stands for the entries that were looked at.
+use Rattle.std.proofs.Common.{map, drop}
+use Rattle.wire.specs.Meaning.{entry_of as meant}
+use Rattle.past.specs.Past.{entry_of}
 use Rattle.past.proofs.Folding.{Folded}
 use Rattle.past.proofs.judging.is_unsafe.Given as goal
 
-abbrev pub invariant-loop-i : goal.invariant-loop-i
-invariant-loop-i l =
-    (1 ≤ l.i) × Folded (meant l.first) (entry l.source l.target) (drop l.i (entries l.count l.region)) l.least_source l.least_target l.clashing
+abbrev pub invariant-loop-row : goal.invariant-loop-row
+invariant-loop-row l =
+    Folded (meant l.initial.least) (meant l.entry) (map entry_of l.others) (drop l.row-index (map entry_of l.others)) l.least.source l.least.target l.clashing

@@ -5,4 +5,4 @@ use Rattle.steps.proofs.answers.refuse.Goals as goal
 
 pub returns : goal.returns
 returns c =
-    writes_refusal (number (refusal_of c.args.refusal)) c.number.result 0 c.args.out.now c.write_refused.new.out c.write_refused.result c.number.ensures c.write_refused.ensures
+    writes_refusal (number (refusal_of c.args.refusal)) c.from.result 0 c.args.out.now c.write_refused.new.out c.write_refused.result c.from.ensures c.write_refused.ensures

@@ -1,33 +1,25 @@
--- Each duty lets it or doesn't.
-use Rattle.std.proofs.Common.{sym, ap, ◌∙◌, arith}
+-- Whether one of the duties that are read lets it.
+use Rattle.std.proofs.Common.{◌&&◌, eqb, map, ap, ◌∙◌, rules}
+use borrow.Author.Tests.{tests}
+use Rattle.std.specs.List.{list_any}
+use Rattle.std.proofs.lemmas.Iterator.{YieldsList-from_map_by, YieldsList-from_slice}
+use Rattle.std.proofs.lemmas.Iterator.Consumers.{YieldsList-at}
+use Rattle.std.proofs.lemmas.Iterator.Search.{any_from_yields_List}
+use Rattle.protocol.specs.Data.{valid}
 use Rattle.wire.specs.Meaning.{data_of, duty_of}
-use Rattle.steps.proofs.Letting.{lets_none, lets_ends, lets_other, lets_not, lets_it}
+use Rattle.stored.specs.Numbers.{duty_in}
+use Rattle.steps.proofs.Letting.{some_lets}
+use Rattle.steps.proofs.Upcoming.{read_back}
 use Rattle.steps.proofs.asking.allows.Goals as goal
 
-pub returns-in_default : goal.returns-in_default
-returns-in_default c t h =
-    sym (c.loop-place.invariant t h ∙ lets_none t.past c.args.slot (data_of c.args.data.now) c.loop-place.place t.active (c.in_default.ensures t h))
-
 pub returns : goal.returns
+unfolding duty_of
 returns c t h =
-    let room = ap (λ z. z.waiting) h.sized in
-    let few = h.well.active in
-    sym (c.loop-place.invariant t h ∙ lets_ends t.past c.args.slot (data_of c.args.data.now) c.loop-place.place t.active (omega arith))
-
-pub loop-place-preserved-then-duty-slot : goal.loop-place-preserved-then-duty-slot
-unfolding duty_of
-loop-place-preserved-then-duty-slot c t h =
-    c.loop-place.invariant t h
-    ∙ lets_other t.past c.args.slot (data_of c.args.data.now) c.loop-place.place t.active (duty_of c.in-Some.duty) (c.in-Some.ensures t h) (λ e. omega arith)
-
-pub returns-then-is_valid : goal.returns-then-is_valid
-unfolding duty_of
-returns-then-is_valid c t h =
-    sym (c.loop-place.invariant t h
-    ∙ lets_it t.past c.args.slot (data_of c.args.data.now) c.loop-place.place t.active (duty_of c.in-Some.duty) (c.in-Some.ensures t h) (omega arith) (c.if-is_valid.ensures t h))
-
-pub loop-place-preserved : goal.loop-place-preserved
-unfolding duty_of
-loop-place-preserved c t h =
-    c.loop-place.invariant t h
-    ∙ lets_not t.past c.args.slot (data_of c.args.data.now) c.loop-place.place t.active (duty_of c.in-Some.duty) (c.in-Some.ensures t h) (omega arith) (c.if-is_valid.ensures t h)
+    let found =
+    any_from_yields_List {v = duty_of} (λ y. eqb y.slot c.args.slot && valid t.past (data_of c.args.data.now) y) _ _ c.any.result c.any.ensures.ran
+    (YieldsList-from_map_by _ duty_of duty_in (YieldsList-at c.map.ensures.source (YieldsList-from_slice c.rows.result.now cc)) c.map.ensures.closure (λ x r q k. search (rules, tests)))
+    (λ x b q k. search (rules, tests)) in
+    found
+    ∙ ap (λ rows. list_any (λ y. eqb y.slot c.args.slot && valid t.past (data_of c.args.data.now) y) (map duty_in rows)) (c.rows.ensures t h)
+    ∙ ap (list_any (λ y. eqb y.slot c.args.slot && valid t.past (data_of c.args.data.now) y)) (read_back t.active)
+    ∙ some_lets t.past c.args.slot (data_of c.args.data.now) t.active

@@ -1,35 +1,35 @@
 -- One at hand, one that waits, or this one.
-use Rattle.std.proofs.Common.{[], ◌∷◌, ◌++◌, sym, ap, ◌∙◌, arith}
+use Rattle.std.proofs.Common.{◌≡◌, Bool, true, false, not, [], ◌∷◌, ◌++◌, refl, sym, ap, ◌∙◌}
+use Rattle.std.specs.Bool.{then_some}
 use Rattle.protocol.specs.Data.{pick, Duty}
-use Rattle.wire.specs.Meaning.{duty_of, data_of}
+use Rattle.wire.specs.Meaning.{duty_of}
+use Rattle.wire.specs.declared.values.Duty.{Duty as Given}
+use Rattle.store.specs.Store.{duty_found}
 use Rattle.steps.specs.Queue.{upcoming}
+use Rattle.steps.proofs.Busy.{idle, busy}
 use Rattle.steps.proofs.Giving.{up_found, up_last}
 use Rattle.steps.proofs.Hands.{picked_first, picked_second}
-use Rattle.steps.proofs.Upcoming.{told_none, told_some}
 use Rattle.steps.proofs.duty.begun_by.Goals as goal
 
-pub returns-then-get-gt0 : goal.returns-then-get-gt0
-returns-then-get-gt0 c t h =
-    let hand = c.get.ensures _ t h in
-    sym (picked_second t.at_hand (upcoming (t.queue ++ duty_of c.args.duty.now ∷ []) t.ahead) [] (omega arith))
+unless : (b : Bool) (y : Given) → duty_found (then_some (not b) y) ≡ pick b [] (duty_of y ∷ [])
+unfolding pick
+unless true y = refl
+unless false y = refl
+
+pub returns-then-is_busy : goal.returns-then-is_busy
+returns-then-is_busy c t h =
+    sym (picked_second t.at_hand (upcoming (t.queue ++ duty_of c.args.duty.now ∷ []) t.ahead) [] (busy _ t.at_hand (c.is_busy.ensures t h) c.if-is_busy.true))
 
 pub returns-in-Some : goal.returns-in-Some
 returns-in-Some c t h =
-    let hand = c.get.ensures _ t h in
-    sym (picked_first t.at_hand (upcoming (t.queue ++ duty_of c.args.duty.now ∷ []) t.ahead) [] (omega arith) ∙ up_found (duty_of c.in-Some.first) (duty_of c.args.duty.now) t.queue t.ahead (c.in-Some.ensures t h))
+    sym (picked_first t.at_hand (upcoming (t.queue ++ duty_of c.args.duty.now ∷ []) t.ahead) [] (idle _ t.at_hand (c.is_busy.ensures t h) c.if-is_busy.false)
+    ∙ up_found (duty_of c.in-Some.first) (duty_of c.args.duty.now) t.queue t.ahead (c.in-Some.ensures t h))
 
-pub returns-in-Some-ahead_for : goal.returns-in-Some-ahead_for
-unfolding pick duty_of
-returns-in-Some-ahead_for c t h =
-    let hand = c.get.ensures _ t h in
+pub returns : goal.returns
+unfolding duty_of
+returns c t h =
     let y : Duty = duty_of c.args.duty.now in
-    sym (picked_first t.at_hand (upcoming (t.queue ++ y ∷ []) t.ahead) [] (omega arith) ∙ up_last y t.queue t.ahead (c.in_default.ensures t h)
-    ∙ ap (λ b. pick b [] (y ∷ [])) (told_some y.slot (data_of c.in-Some-ahead_for.field-0) t.ahead (c.in-Some-ahead_for.ensures t h)))
-
-pub returns-in-None : goal.returns-in-None
-unfolding pick duty_of
-returns-in-None c t h =
-    let hand = c.get.ensures _ t h in
-    let y : Duty = duty_of c.args.duty.now in
-    sym (picked_first t.at_hand (upcoming (t.queue ++ y ∷ []) t.ahead) [] (omega arith) ∙ up_last y t.queue t.ahead (c.in_default.ensures t h)
-    ∙ ap (λ b. pick b [] (y ∷ [])) (told_none y.slot t.ahead (c.in-None.ensures t h)))
+    ap duty_found c.then_some.ensures
+    ∙ unless c.is_ahead.result c.args.duty.now
+    ∙ ap (λ b. pick b [] (y ∷ [])) (c.is_ahead.ensures t h)
+    ∙ sym (picked_first t.at_hand (upcoming (t.queue ++ y ∷ []) t.ahead) [] (idle _ t.at_hand (c.is_busy.ensures t h) c.if-is_busy.false) ∙ up_last y t.queue t.ahead (c.in_default.ensures t h))

@@ -1,22 +1,31 @@
 -- One call after another.
-use Rattle.std.proofs.Common.{List, drop, subst}
-use Rattle.protocol.specs.Data.{Data, keep}
-use Rattle.past.specs.Past.{entry}
-use Rattle.wire.specs.Meaning.{data_of, duty_of}
+use Rattle.std.proofs.Common.{List, drop, subst, ◌∙◌}
+use Rattle.protocol.specs.Client.{without}
+use Rattle.protocol.specs.Data.{Data, Past, keep}
+use Rattle.wire.specs.Meaning.{data_of, duty_of, entry_of}
 use Rattle.stored.specs.Stored.{Stored, with_past, with_ahead, with_banks, with_queue, freed}
-use Rattle.stored.specs.Kept.{Held}
-use Rattle.layout.specs.Layout.{sizes}
+use Rattle.layout.specs.Memory.{Holds}
 use Rattle.keeper.specs.Step.{learnt}
 use Rattle.steps.proofs.Apart.{without_is}
 use Rattle.steps.proofs.queue.learn.Goals as goal
 
 pub returns : goal.returns
 unfolding learnt data_of duty_of
-returns c t h fits some =
-    let k = c.args.first.now.slot in
-    let form : List Data → Stored =
-    λ ds. with_queue (drop 1 t.queue) (with_banks (freed t.sizes.clients k t.banks) (with_ahead ds (with_past (keep t.sizes.kept (entry c.args.shown.now.source c.args.shown.now.target) t.past) t))) in
-    let after-past = c.remember.ensures t h in
-    let after-ahead = c.drop_slots.ensures _ after-past in
-    let after-banks = c.release.ensures _ after-ahead fits in
-    subst (λ (ds : List Data). Held (sizes c.args.layout.now) c.pop_waiting.new.memory (form ds)) (without_is k t.ahead) (c.pop_waiting.ensures _ after-banks some)
+returns c =
+    let a = c.remember.ensures in
+    let b = c.drop_slots.ensures in
+    let e = c.release.ensures in
+    let f = c.pop_waiting.ensures in
+    record {
+      layout = f.layout ∙ e.layout ∙ b.layout ∙ a.layout;
+      lent = f.lent ∙ e.lent ∙ b.lent ∙ a.lent;
+      holds = λ t h ok.
+          let k = c.args.first.now.slot in
+          let form : Past → List Data → Stored =
+          λ p ds. with_queue (drop 1 t.queue) (with_banks (freed t.sizes.clients k t.banks) (with_ahead ds (with_past (keep t.sizes.kept p t.past) t))) in
+          let after-past = a.holds t h in
+          let after-ahead = b.holds _ after-past in
+          let after-banks = e.holds _ after-ahead ok.0 in
+          let after-queue = subst (λ (ds : List Data). Holds c.pop_waiting.new.memory (form (entry_of c.from.result) ds)) (without_is k t.ahead) (f.holds _ after-banks ok.1) in
+          subst (λ (p : Past). Holds c.pop_waiting.new.memory (form p (without k t.ahead))) c.from.ensures after-queue;
+    }

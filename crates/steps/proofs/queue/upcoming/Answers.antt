@@ -1,26 +1,21 @@
--- A duty that is ahead is passed, and the first that isn't is it.
-use Rattle.std.proofs.Common.{sym, ap, ◌∙◌, arith}
-use Rattle.wire.specs.Meaning.{duty_of, data_of}
-use Rattle.steps.proofs.Upcoming.{told_none, told_some, up_none, up_passes, up_stops, up_ends}
+-- The first of the duties that are read that isn't ahead.
+use Rattle.std.proofs.Common.{not, map, ap, ◌∙◌, rules}
+use borrow.Author.Tests.{tests}
+use Rattle.std.specs.List.{find}
+use Rattle.std.proofs.lemmas.Iterator.{YieldsList-from_map_by, YieldsList-from_slice}
+use Rattle.std.proofs.lemmas.Iterator.Consumers.{YieldsList-at}
+use Rattle.std.proofs.lemmas.Iterator.Search.{find_from_yields_List}
+use Rattle.protocol.specs.Client.{has_slot}
+use Rattle.wire.specs.Meaning.{duty_of}
+use Rattle.stored.specs.Numbers.{duty_in}
+use Rattle.steps.proofs.Upcoming.{found_up, read_back}
 use Rattle.steps.proofs.queue.upcoming.Goals as goal
 
-pub returns-in_default : goal.returns-in_default
-returns-in_default c t h =
-    sym (c.loop-place.invariant t h ∙ up_none c.loop-place.place t.queue t.ahead (c.in_default.ensures t h))
-
-pub loop-place-preserved : goal.loop-place-preserved
-unfolding duty_of
-loop-place-preserved c t h =
-    c.loop-place.invariant t h
-    ∙ up_passes c.loop-place.place t.queue t.ahead (duty_of c.in-Some.duty) (c.in-Some.ensures t h) (told_some c.in-Some.duty.slot (data_of c.in_default-ahead_for.field-0) t.ahead (c.in_default-ahead_for.ensures t h))
-
-pub returns-in-loop-place : goal.returns-in-loop-place
-unfolding duty_of
-returns-in-loop-place c t h =
-    sym (c.loop-place.invariant t h ∙ up_stops c.loop-place.place t.queue t.ahead (duty_of c.in-Some.duty) (c.in-Some.ensures t h) (told_none c.in-Some.duty.slot t.ahead (c.in-None.ensures t h)))
-
 pub returns : goal.returns
+unfolding duty_of
 returns c t h =
-    let room = ap (λ z. z.waiting) h.sized in
-    let few = h.well.queue in
-    sym (c.loop-place.invariant t h ∙ up_ends c.loop-place.place t.queue t.ahead (omega arith))
+    let found =
+    find_from_yields_List {v = duty_of} (λ y. not (has_slot y.slot t.ahead)) _ _ c.find.result c.find.ensures.ran
+    (YieldsList-from_map_by _ duty_of duty_in (YieldsList-at c.map.ensures.source (YieldsList-from_slice c.rows.result.now cc)) c.map.ensures.closure (λ x r q k. search (rules, tests)))
+    (λ x b q k. search (rules, tests)) in
+    found_up c.find.result t.queue t.ahead (found ∙ ap (λ rows. find (λ y. not (has_slot y.slot t.ahead)) (map duty_in rows)) (c.rows.ensures t h) ∙ ap (find (λ y. not (has_slot y.slot t.ahead))) (read_back t.queue))

@@ -1,17 +1,29 @@
-use Rattle.std.proofs.Common.{sym, ap, ◌∙◌, arith}
-use Rattle.protocol.specs.Data.{keep}
-use Rattle.past.specs.Past.{entry, row_of}
-use Rattle.stored.specs.Numbers.{listed}
+use Rattle.std.proofs.Common.{◌≡◌, ℕ, List, map, refl, sym, ap, ◌∙◌}
+use Rattle.protocol.specs.Data.{Past, keep}
+use Rattle.wire.specs.Meaning.{entry_of}
+use Rattle.past.specs.Past.{row_of}
+use Rattle.stored.specs.Stored.{with_past}
 use Rattle.layout.specs.Layout.{sizes}
-use Rattle.store.proofs.Lending.{list_written, list_lent, fits}
-use Rattle.store.proofs.Listings.{past_list}
+use Rattle.layout.specs.declared.region.Region.TheVariants as region
+use Rattle.lists.specs.Lists.{counted}
+use Rattle.store.specs.Laws.{past_held}
+use Rattle.store.specs.Relisted.{past_relisted}
 use Rattle.store.proofs.PastList.{keep_few}
+use Rattle.store.proofs.Relisting.{relist}
 use Rattle.store.proofs.history.remember.Goals as goal
 
 pub returns : goal.returns
-returns c t h =
-    let kept = ap (λ z. z.kept) h.sized in
-    let few = keep_few t.sizes.kept (entry c.args.source c.args.target) t.past in
-    list_written past_list (sizes c.args.layout.now) c.span-start.result c.args.memory.now c.span-start.ensures t h c.keep_one.new.region (keep t.sizes.kept (entry c.args.source c.args.target) t.past) (omega arith)
-    (c.keep_one.ensures t.past (fits past_list (sizes c.args.layout.now) c.span-start.result c.args.memory.now c.span-start.ensures t h) (list_lent past_list (sizes c.args.layout.now) c.span-start.result c.args.memory.now c.span-start.ensures t h)
-    ∙ ap (λ k. listed 2 c.args.layout.now.kept row_of (keep k (entry c.args.source c.args.target) t.past)) (sym kept))
+returns c =
+    let p : Past = entry_of c.args.entry in
+    let n : ℕ = c.args.memory.now.layout.kept in
+    record {
+      layout = refl;
+      lent = refl;
+      holds =
+          λ t h.
+          let ps : List Past = keep t.sizes.kept p t.past in
+          let same : t.sizes.kept ≡ n = ap (λ z. z.kept) h.sized in
+          relist 2 n region.Past region.Past (sizes c.args.memory.now.layout) c.span-span.result c.args.memory.now.numbers.now _ c.keep_one.new.region t (with_past ps t) (map row_of t.past) (map row_of ps) refl refl c.span-span.ensures refl h (past_held t h.well)
+          (λ r. c.keep_one.ensures t.past r ∙ ap (λ k. counted 2 n (map row_of (keep k p t.past))) (sym same))
+          (past_relisted ps t h.well (keep_few t.sizes.kept p t.past));
+    }

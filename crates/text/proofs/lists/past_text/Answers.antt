@@ -1,12 +1,10 @@
-use Rattle.text.proofs.Made.{made_is}
-use Rattle.text.proofs.Listings.{past_none, past_some}
+use Rattle.std.proofs.Common.{◌-◌, length, take}
+use Rattle.std.proofs.lemmas.Iterator.Consumers.{YieldsList-end}
+use Rattle.std.proofs.lemmas.Iterator.Adapters.{YieldsList-from_rev_slice}
+use Rattle.text.proofs.Listed.{past_whole}
 use Rattle.text.proofs.lists.past_text.Goals as goal
-
-pub returns-then-is_empty : goal.returns-then-is_empty
-returns-then-is_empty c = made_is c.format.result (past_none c.args.past.now c.if-is_empty.ensures) c.format.ensures.ok
 
 pub returns : goal.returns
 returns c =
-    let list = c.in_ok-list.ensures in
-    let parts = c.in_ok-parts.ensures in
-    made_is c.format-2.result (past_some c.args.past.now _ c.if-is_empty.ensures (rw (c.as_slice.ensures.value, parts) at list)) c.format-2.ensures.ok
+    let ends = YieldsList-end (YieldsList-from_rev_slice (take (length c.args.past.now - 1) c.args.past.now) cc) c.loop-entry.yielded _ c.loop-entry.yielded_by _ _ c.in-None.is c.next.ensures.steps in
+    past_whole c.args.past.now _ _ _ _ c.in-len1-up.len_at_least c.in_ok-text.ensures.ok c.loop-entry.invariant ends.0

@@ -1,0 +1,8 @@
+-- None of the entries before the place passed.
+use Rattle.std.proofs.Common.{List, ℕ, Bool}
+use Rattle.rows.specs.Rows.{Tests}
+use Rattle.lists.proofs.Finding.{Passed}
+use Rattle.lists.proofs.list.List.find.Given as goal
+
+abbrev pub invariant-loop-place : goal.invariant-loop-place
+invariant-loop-place g l = (p : List ℕ → Bool) → Tests g.F.Fn l.which g.row.W p → Passed p g.row.W l.self.room l.place l.self.region.now

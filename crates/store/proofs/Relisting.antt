@@ -1,0 +1,23 @@
+-- A list as its region of the whole memory is lent, and written anew.
+use Rattle.std.specs.declared.ops.Range.{Range}
+use Rattle.std.proofs.Common.{◌≡◌, ℕ, ◌-◌, List, take, drop, set, sym, ap, ◌∙◌, subst}
+use borrow.Rule.Slice.PartMut.{put_mid}
+use Rattle.stored.specs.Stored.{Sizes, Stored}
+use Rattle.stored.specs.Numbers.{regions}
+use Rattle.stored.specs.Kept.{Held}
+use Rattle.layout.specs.Layout.{Spans}
+use Rattle.layout.specs.Memory.{content}
+use Rattle.layout.specs.declared.region.Region.{Region}
+use Rattle.layout.proofs.Places.{place, shown, written}
+use Rattle.lists.specs.Lists.{counted, Region as Holds}
+use Rattle.store.specs.Rooms.{room_of}
+use Rattle.store.specs.Relisted.{Relisted}
+
+-- what is done with the rows of a list, as its region is lent, is done with the client's
+pub relist : (w n : ℕ) (r r' : Region) (z : Sizes) (s : Range ℕ) (xs now part : List ℕ) (t t' : Stored) (rs rs' : List (List ℕ)) → r' ≡ r → n ≡ room_of r' z → Spans z r' s → now ≡ take (s.end - s.start) (drop s.start xs) → Held z xs t → Holds w (room_of r t.sizes) rs (content r t) → (Holds w n rs now → part ≡ counted w n rs') → Relisted w r rs' t t' → Held z (put_mid s.start (s.end - s.start) xs part) t'
+relist w n r r' z s xs now part t t' rs rs' er en p is h held done x =
+    let q : Spans z r s = subst (λ (y : Region). Spans z y s) er p in
+    let room : n ≡ room_of r t.sizes = en ∙ ap (λ (y : Region). room_of y z) er ∙ ap (room_of r) (sym h.sized) in
+    let there : Holds w n rs now =
+    subst (λ (k : ℕ). Holds w k rs now) (sym room) (subst (λ (ys : List ℕ). Holds w (room_of r t.sizes) rs ys) (sym (is ∙ shown z r s xs t q h)) held) in
+    written z r s xs t q h part t' x.well x.sized (ap (set (regions t) (place r)) (done there ∙ ap (λ k. counted w k rs') room) ∙ x.is)
