@@ -153,15 +153,16 @@ fn reads_block(rt: &impl Abort, count: u8) -> Result<(), Fail> {
     let mut bytes = [7u8; 32643];
     bytes[0] = 3;
     bytes[1] = count;
-    let end = 2 + 128 * count as usize;
+    let count = usize::from(count);
+    let end = 2 + 128 * count;
     assert!(rt; refused_at(&bytes[0..end - 1], (end - 1) as u64));
     assert!(rt; refused_at(&bytes[0..end + 1], end as u64));
     let Ok(Event::Block(row)) = read_event(&bytes[0..end]) else {
         return Err(Fail::new("a block"));
     };
-    assert_eq!(rt; row.len(), count as usize);
-    assert_eq!(rt; row.get::<Data>(count as usize), None);
-    for i in 0..count as usize {
+    assert_eq!(rt; row.len(), count);
+    assert_eq!(rt; row.get::<Data>(count), None);
+    for i in 0..count {
         assert_eq!(rt; row.get::<Data>(i), Some(sevens()));
     }
     Ok(())

@@ -12,6 +12,7 @@ use crate::row_writing::Few;
 use wire::{Fixed, Short};
 
 // Writes a refusal at the front of `out`.
+// Stays: a refusal is a number here, since any number can be written; a type of the seven would ask more of callers.
 pub fn write_refused(out: &mut [u8], number: u8, place: u64) -> Result<usize, Short>
     ensures { MatchResult result (Written 10 (answer_bytes (refused number place)) out.old out.new) (λ _. Unwritten 10 out.old out.new) }
 {

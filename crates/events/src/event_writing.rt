@@ -55,7 +55,7 @@ fn write_one<T: Fixed>(out: &mut [u8], kind: EventKind, value: &T) -> Result<usi
 fn write_lent(out: &mut [u8], count: u8, bytes: &[u8]) -> Result<usize, NotWritten>
     ensures { Outcome (nat_le (128 * count) (length bytes.now)) (event_bytes (block (entries 128 data_from count bytes.now))) out.old out.new result }
 {
-    let size = 128 * usize::from(count);
+    let size = Data::size() * usize::from(count);
     if bytes.len() < size {
         return Err(NotWritten::BadRow);
     }

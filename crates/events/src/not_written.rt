@@ -1,7 +1,4 @@
 // Why nothing was written.
-ghost use Rattle.std.specs.Prelude.{◌≡◌};
-
-use wire::Short;
 
 #[derive(Clone, Copy, PartialEq, Eq, Debug)]
 pub enum NotWritten {

@@ -10,7 +10,8 @@ use wire::Fixed;
 #[derive(Drop)]
 pub(crate) struct Few<'a, T> {
     entries: &'a [T],
-    ghost few: { length entries.now ≤ 255 },
+    count: u8,
+    ghost counted: { count ≡ length entries.now },
 }
 
 impl<'a, T: Fixed> Few<'a, T> {
@@ -18,10 +19,8 @@ impl<'a, T: Fixed> Few<'a, T> {
     pub(crate) fn of(entries: &'a [T]) -> Option<Few<'a, T>>
         ensures { MatchOption result (few entries.now ≡ false) (λ r. (few entries.now ≡ true) × (r.entries.now ≡ entries.now)) }
     {
-        if entries.len() > 255 {
-            return None;
-        }
-        Some(Few { entries })
+        let count = u8::try_from(entries.len()).ok()?;
+        Some(Few { entries, count })
     }
 
     // How many bytes a row of them has.
@@ -47,7 +46,7 @@ impl<'a, T: Fixed> Few<'a, T> {
         ensures counted { result ≡ 1 + T.Fixed.width * length self.now.entries.now }
         ensures holds { out.new ≡ placed 0 (1 + T.Fixed.width * length self.now.entries.now) (row_bytes T.Fixed.coded self.now.entries.now) out.old }
     {
-        out[0] = self.entries.len() as u8;
+        out[0] = self.count;
         put_entries(out, 1, self.entries)
     }
 }
@@ -58,7 +57,7 @@ fn put_entries<T: Fixed>(out: &mut [u8], at: usize, entries: &[T]) -> usize
     ensures ends { result ≡ at + T.Fixed.width * length entries.now }
     ensures holds { out.new ≡ placed at (T.Fixed.width * length entries.now) (all_bytes T.Fixed.coded entries.now) out.old }
 {
-    // Stays: the place moves on by an entry's width; one counted by `enumerate` would be multiplied out anew for each.
+    // Stays: the place moves on by hand; behind `chunks_mut`, which would part the bytes by entries, a proof knows their length and not what was written.
     let mut end = at;
     for entry in entries {
         entry.put(out, end);

@@ -11,6 +11,7 @@ use crate::opening::OpenError;
 use protocol::Limits;
 
 // A number of the header, of any numbers that have one.
+// Stays: `get` and `put` beside the methods of a view and a memory, which ask for all of a client's numbers; these ask for eight, a promise that stands.
 #[tactic(auto, using(crate::proofs::Numbered::field_read))]
 pub fn get(memory: &[u64], field: Field) -> u64
     requires { 8 ≤ length memory.now }
@@ -27,8 +28,8 @@ pub fn put(memory: &mut [u64], field: Field, value: u64)
     memory[field.place()] = value;
 }
 
-// Stays: over the slice, since the check doesn't cover a `Result` that holds a `Memory`, a `&mut` beside a struct with a ghost field.
 // Makes the memory of a new client at the front of the slice; nothing is changed where that can't be.
+// Stays: over the slice, since the check doesn't cover a `Result` that holds a `Memory`, a `&mut` beside a struct with a ghost field.
 pub fn open(memory: &mut [u64], limits: &Limits) -> Result<Layout, OpenError>
     ensures { MatchResult result
         (λ l. (sizes l ≡ limit_sizes limits.now) × Opened limits.now memory.old memory.new)

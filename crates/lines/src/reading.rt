@@ -82,6 +82,7 @@ fn parse_listed(heap: Global, text: &str) -> Result<Vec<Data>, LineError> {
 }
 
 // What a hexadecimal digit is worth.
+// Stays: a match, since the library's `to_digit` takes capitals too, which a line may not have.
 fn digit_value(digit: u8) -> Result<u8, Expected> {
     match digit {
         b'0'..=b'9' => Ok(digit - b'0'),

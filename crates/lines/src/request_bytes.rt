@@ -1,4 +1,5 @@
 // The bytes of requests.
+// Stays: put into vectors here and not by the functions of `events` over slices: those refuse where there is no room, and what was tried had an error for that case, which can't come.
 ghost use Rattle.std.specs.Prelude.{◌≡◌, [], ◌∷◌, ◌++◌, map, IfOk, vec_items, OnOk};
 ghost use Rattle.std.specs.Option.{option_map};
 ghost use Rattle.protocol.specs.Client.{block};

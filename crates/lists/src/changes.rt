@@ -1,5 +1,6 @@
 // What is done with a list.
 // Stays: the region and its room as parameters; a struct that holds the lent part of a memory was tried, and what the part becomes was lost to its caller's proof.
+// `remove` and `keep` take any width, a number, where `insert` and `replace` have it from their row: they take no row, and a promise for each width that a caller has at run time stands.
 ghost use Rattle.std.specs.Prelude.{◌≡◌, ℕ, ◌+◌, ◌*◌, ◌≤◌, Bool, List as Listed, length};
 ghost use Rattle.rows.specs.Rows.{Takes, Tests};
 ghost use Rattle.lists.specs.Lists.{Inserts, Removes, Replaces, Keeps};

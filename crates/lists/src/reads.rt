@@ -15,6 +15,7 @@ pub fn count(region: &[u64], room: usize) -> usize
 }
 
 impl<'a, const W: usize> List<'a, W> {
+    // The list in a region with room for so many entries.
     pub fn new(region: &'a [u64], room: usize) -> List<'a, W>
         requires { 1 + W * room ≤ length region.now }
         ensures same { result.region ≡ region.entry }
@@ -53,7 +54,7 @@ impl<'a, const W: usize> List<'a, W> {
     }
 
     // The place of the first entry that passes, if one does.
-    // Stays: places in a loop, since entries of no width can be asked for too, of which no slice can be cut into rows.
+    // Stays: places in a loop. Entries of no width can be asked for too, of which no slice can be cut into rows; and `(0..self.count()).find(..)` was tried: that its closure stays within the region at each place didn't close.
     pub fn find<F: Fn(&[u64]) -> bool>(self, which: F) -> Option<usize>
         requires { Takes F.Fn which W }
         ensures { (p : Listed ℕ → Bool) → Tests F.Fn which W p → (rs : Listed (Listed ℕ)) → Region W self.entry.room rs self.entry.region.now → result ≡ place_in rs (first_passing p rs) }

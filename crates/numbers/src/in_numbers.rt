@@ -13,8 +13,8 @@ pub trait InNumbers<const N: usize>: Sized {
     fn to_numbers(&self) -> [u64; N]
         ensures { result ≡ numbers self.now };
 
-    // Stays: a slice and no array, since a longer row is read as well.
     // The value in a row's first numbers.
+    // Stays: a slice and no array, since a longer row is read as well.
     fn from_numbers(row: &[u64]) -> Self
         requires { N ≤ length row.now }
         ensures { reads row.now result };

@@ -7,6 +7,7 @@ ghost use Rattle.past.specs.Past.{entry_of};
 use wire::Entry;
 
 // The entry that two numbers are.
+// Stays: read here too, since the crate that reads rows of a client's memory stands on this one.
 #[tactic(auto, unfolding(wire::specs::Meaning::entry_of))]
 pub(crate) fn read(row: &[u64; 2]) -> Entry
     ensures { meant result ≡ entry_of row.now }

@@ -60,12 +60,12 @@ larger_behind k (suc i) d (x ∷ ds) up e h = larger_behind k i d ds up.1 e h
 module _ (k : ℕ) (d : Data) (same : d.slot ≡ k) where
   pub found_there : (i : ℕ) (ds : List Data) → AllByRecursion (λ (x : Data). x.slot < k) (take i ds) → take 1 (drop i ds) ≡ d ∷ [] → (ahead_of k ds ≡ d ∷ []) × (has_slot k ds ≡ true)
   unfolding ahead_of has_slot pick
-  found_there zero [] low e = absurd (let z : ◌≡◌ {A = ℕ} 0 1 = ap length e in omega arith)
+  found_there zero [] low e = absurd cc
   found_there zero (x ∷ ds) low e =
       let is : x ≡ d = cc in
       let here : eqb x.slot k ≡ true = eq-eqb x.slot k (ap (λ (y : Data). y.slot) is ∙ same) in
       (ap (λ b. pick b (x ∷ []) (ahead_of k ds)) here ∙ ap (λ y. y ∷ []) is, ap (λ b. b || has_slot k ds) here)
-  found_there (suc i) [] low e = absurd (let z : ◌≡◌ {A = ℕ} 0 1 = ap length e in omega arith)
+  found_there (suc i) [] low e = absurd cc
   found_there (suc i) (x ∷ ds) low e =
       let other : eqb x.slot k ≡ false = ne_eqb x.slot k (λ q. omega (arith, low.0)) in
       let rest = found_there i ds low.1 e in

@@ -36,11 +36,11 @@ waits h t e (y ∷ ys) q = ap (λ n. start_or_wait n y ys t) e ∙ ap (λ zs. wi
 empty_stays : (t : Stored) (ys : List Duty) → [] ≡ take 1 (drop 0 ys) → first_begun ys t ≡ t
 unfolding first_begun
 empty_stays t [] e = refl
-empty_stays t (y ∷ ys) e = absurd (let v : ◌≡◌ {A = ℕ} 0 1 = ap length e in omega arith)
+empty_stays t (y ∷ ys) e = absurd cc
 
 first_there : (y : Duty) (t : Stored) → t.at_hand ≡ 0 → (ys : List Duty) → y ∷ [] ≡ take 1 (drop 0 ys) → started y (drop 1 ys) t ≡ first_begun ys t
 unfolding first_begun start_or_wait
-first_there y t none [] e = absurd (let v : ◌≡◌ {A = ℕ} 1 0 = ap length e in omega arith)
+first_there y t none [] e = absurd cc
 first_there y t none (x ∷ ys) e =
     let same : y ≡ x = cc in
     ap (λ v. started v ys t) same ∙ sym (ap (λ n. start_or_wait n x ys t) none)
@@ -62,13 +62,13 @@ begins y t none e = first_there y t none t.queue e
 
 -- a duty that is among these fits too
 pub fits_there : (m : ℕ) (y : Duty) (ys : List Duty) → y ∷ [] ≡ take 1 (drop m ys) → AllByRecursion SlotFits ys → y.slot < 18446744073709551615
-fits_there zero y [] e all = absurd (let v : ◌≡◌ {A = ℕ} 1 0 = ap length e in omega arith)
-fits_there (suc m) y [] e all = absurd (let v : ◌≡◌ {A = ℕ} 1 0 = ap length e in omega arith)
+fits_there zero y [] e all = absurd cc
+fits_there (suc m) y [] e all = absurd cc
 fits_there zero y (x ∷ ys) e all =
     let same : y ≡ x = cc in
     omega (arith, all.0, ap (λ (v : Duty). v.slot) same)
 fits_there (suc m) y (x ∷ ys) e all = fits_there m y ys e all.1
 
 pub some_waits : (y : Duty) (ys : List Duty) → y ∷ [] ≡ take 1 (drop 0 ys) → 0 < length ys
-some_waits y [] e = absurd (let v : ◌≡◌ {A = ℕ} 1 0 = ap length e in omega arith)
+some_waits y [] e = absurd cc
 some_waits y (x ∷ ys) e = omega arith

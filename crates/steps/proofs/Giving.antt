@@ -38,7 +38,7 @@ fits_more y (x ∷ ys) h p = (h.0, fits_more y ys h.1 p)
 -- the first that isn't ahead, with one more behind
 pub up_found : (x y : Duty) (ys : List Duty) (ds : List Data) → x ∷ [] ≡ upcoming ys ds → upcoming (ys ++ y ∷ []) ds ≡ x ∷ []
 unfolding upcoming pick
-up_found x y [] ds = λ e. absurd (let v : ◌≡◌ {A = ℕ} 1 0 = ap length e in omega arith)
+up_found x y [] ds = λ e. absurd cc
 up_found x y (z ∷ ys) ds =
     elim (has_slot z.slot ds) as (λ b. x ∷ [] ≡ pick b (upcoming ys ds) (z ∷ []) → pick b (upcoming (ys ++ y ∷ []) ds) (z ∷ []) ≡ x ∷ []) [
       | true ↦ up_found x y ys ds
@@ -51,7 +51,7 @@ up_last y [] ds = λ e. refl
 up_last y (z ∷ ys) ds =
     elim (has_slot z.slot ds) as (λ b. [] ≡ pick b (upcoming ys ds) (z ∷ []) → pick b (upcoming (ys ++ y ∷ []) ds) (z ∷ []) ≡ pick (has_slot y.slot ds) [] (y ∷ [])) [
       | true ↦ up_last y ys ds
-      | false ↦ λ e. absurd (let v : ◌≡◌ {A = ℕ} 0 1 = ap length e in omega arith)
+      | false ↦ λ e. absurd cc
     ]
 
 -- by what it is turned away

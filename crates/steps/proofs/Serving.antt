@@ -10,8 +10,10 @@ use Rattle.stored.specs.Stored.{Sizes, Stored}
 use Rattle.stored.specs.Kept.{Held}
 use Rattle.layout.specs.Layout.{sizes}
 use Rattle.layout.specs.declared.layout.Layout.{Layout}
+use Rattle.layout.specs.declared.memory.Memory.{Memory}
 use Rattle.keeper.specs.Step.{refusal, moved, done, step, reply}
-use Rattle.steps.specs.Served.{Writes, Leaves, Serves}
+use Rattle.keeper.specs.Ready.{Ready}
+use Rattle.steps.specs.Served.{Writes, Leaves, Serves, Step}
 
 -- a memory whose layout stays holds what it holds by the layout that it had
 pub held_by : (l l' : Layout) → l' ≡ l → (xs : List ℕ) (t : Stored) → Held (sizes l') xs t → Held (sizes l) xs t
@@ -19,7 +21,7 @@ held_by l l' e xs t h = subst (λ (k : Layout). Held (sizes k) xs t) e h
 
 module _ (z : Sizes) (can : ℕ → Bool) (e : Event) (before out out' : List ℕ) (t : Stored) where
   -- turned away by a number, at a place
-  pub serves_refused_at : (r : Result ℕ Short) (n p : ℕ) → Held z before t → 0 < n → refusal can t e ≡ n → place e n ≡ p → Writes (refused n p) out out' r → Serves z can e before before out out' r t
+  serves_refused_at : (r : Result ℕ Short) (n p : ℕ) → Held z before t → 0 < n → refusal can t e ≡ n → place e n ≡ p → Writes (refused n p) out out' r → Serves z can e before before out out' r t
   unfolding pick
   serves_refused_at r n p h some is at_p w =
       let off : eqb (refusal can t e) 0 ≡ false = ne_eqb (refusal can t e) 0 (λ v. omega arith) in
@@ -36,9 +38,6 @@ module _ (z : Sizes) (can : ℕ → Bool) (e : Event) (before out out' : List �
       by_result : (r : Result ℕ Short) → Held z before (step can t e) → Leaves z before before (step can t e) r
       by_result (Ok k) h = h
       by_result (Err s) h = refl
-
-  pub serves_refused : (r : Result ℕ Short) (n : ℕ) → Held z before t → 0 < n → refusal can t e ≡ n → place e n ≡ 0 → Writes (refused n 0) out out' r → Serves z can e before before out out' r t
-  serves_refused r n h some is at_0 w = serves_refused_at r n 0 h some is at_0 w
 
   -- taken
   module _ (a : Answer) (taken : refusal can t e ≡ 0) (says : done can t e ≡ a) where
@@ -69,3 +68,18 @@ module _ (z : Sizes) (can : ℕ → Bool) (e : Event) (before out out' : List �
     pub serves_still : (r : Result ℕ Short) → Held z before (moved t e) → Writes a out out' r → Serves z can e before before out out' r t
     serves_still (Ok n) h w = serves_done before n w h
     serves_still (Err s) h w = serves_unwritten s w
+
+-- the same event by another name
+pub step_by : {can : ℕ → Bool} {e e' : Event} {before after : Memory} {out out' : List ℕ} {r : Result ℕ Short} → e ≡ e' → Step can e before after out out' r → Step can e' before after out out' r
+step_by {can} {e} {e'} {before} {after} {out} {out'} {r} is s = subst (λ (x : Event). Step can x before after out out' r) is s
+
+-- an event is turned away by a number, at a place
+pub step_refused : (can : ℕ → Bool) (e : Event) (n p : ℕ) {memory : Memory} {out out' : List ℕ} {r : Result ℕ Short} → 0 < n → ((t : Stored) → Held (sizes memory.layout) memory.numbers.now t → Ready t → refusal can t e ≡ n) → place e n ≡ p → Writes (refused n p) out out' r → Step can e memory memory out out' r
+step_refused can e n p {memory} {out} {out'} {r} some is at_p w =
+    record {
+      layout = refl;
+      lent = refl;
+      serves =
+          λ t h ready.
+          serves_refused_at (sizes memory.layout) can e memory.numbers.now out out' t r n p h some (is t h ready) at_p w;
+    }

@@ -5,7 +5,7 @@ use Rattle.std.proofs.lemmas.List.{get_or-set_same}
 use Rattle.std.proofs.ByRecursion.{All-get_or}
 use Rattle.std.proofs.lemmas.Bool.{eq-eqb, ne_eqb, lt-ltb, le-ltb, and_from, and_right}
 use Rattle.protocol.specs.Data.{pick, Data, quorum}
-use Rattle.protocol.specs.Client.{Share, share, Answer, refused, does, event_number, good_fields, place}
+use Rattle.protocol.specs.Client.{Share, share, Answer, does, event_number, good_fields}
 use Rattle.safety.proofs.Picks.{pick_true}
 use Rattle.safety.proofs.Same.{same_refl}
 use Rattle.wire.specs.Fixed.{Written, Unwritten}
@@ -16,8 +16,8 @@ use Rattle.stored.specs.Kept.{CellFits, Well, Held}
 use Rattle.keeper.specs.Step.{refused_by, refusal, moved, done, bank_place, slot_cells, put_share}
 use Rattle.keeper.proofs.Marks.{once, pick_false}
 use Rattle.keeper.proofs.Signers.{alike_set, silent}
-use Rattle.steps.specs.Served.{Writes, Serves}
-use Rattle.steps.proofs.Serving.{serves_refused, serves_done, serves_unwritten}
+use Rattle.steps.specs.Served.{Serves}
+use Rattle.steps.proofs.Serving.{serves_done, serves_unwritten}
 
 -- no bank has a mark that is too large to be one
 pub no_such_mark : (m : ℕ) (bs : List Bank) → 18446744073709551616 ≤ m → AllByRecursion (λ (b : Bank). (b.mark < 18446744073709551616) × AllByRecursion CellFits b.cells) bs → place_of m bs ≡ length bs
@@ -104,11 +104,6 @@ module _ (can : ℕ → Bool) (t : Stored) (x : Share) where
 
 -- a share is served as the one that was read from its event's bytes
 module _ (z : Sizes) (can : ℕ → Bool) (before out out' : List ℕ) (t : Stored) (x y : Share) (read : x ≡ y) where
-  pub share_refused : (r : Result ℕ Short) (n : ℕ) → Held z before t → 0 < n → refusal can t (share x) ≡ n → Writes (refused n 0) out out' r → Serves z can (share y) before before out out' r t
-  unfolding place
-  share_refused r n h some is w =
-      subst (λ (s : Share). Serves z can (share s) before before out out' r t) read (serves_refused z can (share x) before out out' t r n h some is refl w)
-
   module _ (a : Answer) (taken : refusal can t (share x) ≡ 0) (says : done can t (share x) ≡ a) where
     pub share_done : (after : List ℕ) (n : ℕ) → Written (length (answer_bytes a)) (answer_bytes a) out out' n → Held z after (moved t (share x)) → Serves z can (share y) before after out out' (Ok n) t
     share_done after n w h =

@@ -72,7 +72,7 @@ module _ (can : ℕ → Bool) (t : Stored) (k : ℕ) (d : Data) where
 
   something : (y : Duty) (ys : List Duty) → y ∷ [] ≡ for_slot k ys → (settled ys k d t ≡ settle t.queue (signed_so t y d)) × (sends_decided (limits_in can t) ys k d ≡ own_share t y d ∷ [])
   unfolding for_slot settled sends_decided
-  something y [] = λ e. absurd (let v : ◌≡◌ {A = ℕ} 1 0 = ap length e in omega arith)
+  something y [] = λ e. absurd cc
   something y (x ∷ ys) =
       elim (eqb x.slot k) as (λ b. y ∷ [] ≡ pick b (x ∷ []) [] → (pick b (settle t.queue (signed_so t x d)) t ≡ settle t.queue (signed_so t y d)) × (pick b (own_share t x d ∷ []) [] ≡ own_share t y d ∷ [])) [
         | true ↦ λ e. signs y x e

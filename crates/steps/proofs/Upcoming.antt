@@ -1,5 +1,5 @@
 -- The first duty that waits and isn't ahead, as the queue is gone through.
-use Rattle.std.proofs.Common.{◌≡◌, ℕ, true, false, cond, not, ◌||◌, eqb, List, [], ◌∷◌, map, length, Some, None, Option, refl, ap, ◌∙◌, ap₂, arith}
+use Rattle.std.proofs.Common.{◌≡◌, ℕ, true, false, cond, not, ◌||◌, eqb, List, [], ◌∷◌, map, Some, None, Option, refl, ap, ◌∙◌, ap₂}
 use Rattle.std.specs.List.{find}
 use Rattle.std.specs.Option.{option_map, is_some}
 use Rattle.wire.specs.Meaning.{data_of, duty_of}
@@ -18,13 +18,13 @@ unfolding ahead_of has_slot pick
 told_none k [] = λ e. refl
 told_none k (d ∷ ds) =
     elim (eqb d.slot k) as (λ b. [] ≡ pick b (d ∷ []) (ahead_of k ds) → (b || has_slot k ds) ≡ false) [
-      | true ↦ λ e. absurd (let v : ◌≡◌ {A = ℕ} 0 1 = ap length e in omega arith)
+      | true ↦ λ e. absurd cc
       | false ↦ told_none k ds
     ]
 
 pub told_some : (k : ℕ) (d : Data) (ds : List Data) → d ∷ [] ≡ ahead_of k ds → has_slot k ds ≡ true
 unfolding ahead_of has_slot pick
-told_some k d [] = λ e. absurd (let v : ◌≡◌ {A = ℕ} 1 0 = ap length e in omega arith)
+told_some k d [] = λ e. absurd cc
 told_some k d (x ∷ ds) =
     elim (eqb x.slot k) as (λ b. d ∷ [] ≡ pick b (x ∷ []) (ahead_of k ds) → (b || has_slot k ds) ≡ true) [
       | true ↦ λ e. refl

@@ -44,12 +44,12 @@ rows_wait rows ys e = ap length e ∙ length-map ys duty_numbers
 
 -- a list by its first, and what is behind it
 first_of_list : {A : Type 0} (x : A) (xs : List A) → x ∷ [] ≡ take 1 (drop 0 xs) → xs ≡ x ∷ drop 1 xs
-first_of_list x [] e = absurd (let v : ◌≡◌ {A = ℕ} 1 0 = ap length e in omega arith)
+first_of_list x [] e = absurd cc
 first_of_list x (y ∷ ys) e = let same : x ≡ y = cc in ap (λ v. v ∷ ys) (sym same)
 
 none_in_list : {A : Type 0} (xs : List A) → [] ≡ take 1 xs → xs ≡ []
 none_in_list [] e = refl
-none_in_list (x ∷ xs) e = absurd (let v : ◌≡◌ {A = ℕ} 0 1 = ap length e in omega arith)
+none_in_list (x ∷ xs) e = absurd cc
 
 -- what is before all of these is before each
 before_first : (y : Duty) (ys : List Duty) (ds : List Data) → AllByRecursion (Before (y ∷ ys)) ds → AllByRecursion (λ (d : Data). d.slot < y.slot) ds
@@ -87,7 +87,7 @@ passed_more P i d ds e h p = subst (λ n. AllByRecursion P (take n ds)) (sym nex
 
 inside : (i : ℕ) (d : Data) (ds : List Data) → d ∷ [] ≡ take 1 (drop i ds) → i ≤ length ds
 inside zero ds d e = omega arith
-inside (suc i) d [] e = absurd (let v : ◌≡◌ {A = ℕ} 1 0 = ap length e in omega arith)
+inside (suc i) d [] e = absurd cc
 inside (suc i) d (x ∷ ds) e = let h = inside i d ds e in omega arith
 
 -- parts of the queue that is y and what is behind it

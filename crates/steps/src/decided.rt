@@ -54,6 +54,7 @@ fn sign(memory: &mut Memory, share: &Share)
 {
     remember(memory, Entry::from(&share.what));
     put_own(memory, share);
+    // Stays: a number for the flag, since a client's memory holds numbers; `is_busy` reads it.
     memory.put(Field::AtHand, 0);
     settle(memory);
 }

@@ -89,6 +89,7 @@ fn begin(memory: &mut Memory, first: &Duty)
     if let Some(last) = Deciding::at(memory.view(), place) {
         release(memory, last.slot);
     }
+    // Stays: a number for the flag, since a client's memory holds numbers; `is_busy` reads it.
     memory.put(Field::AtHand, 1);
     memory.put(Field::Latest, first.slot.saturating_add(1));
     pop_waiting(memory);

@@ -11,7 +11,7 @@ ghost use Rattle.keeper.specs.Ready.{Ready};
 ghost use Rattle.steps.specs.Served.{Step};
 
 use crate::answers::{refuse, write_deeds};
-use banks::{bank_with, count_alike, is_empty};
+use banks::{Bank, bank_with};
 use events::Deeds;
 use layout::{Layout, Memory, View};
 use protocol::{GroupSize, Refusal};
@@ -25,41 +25,40 @@ fn signer(layout: &Layout, share: &Share) -> Option<usize>
     (who < layout.clients).then_some(who)
 }
 
-// The place of the bank of a slot, if the slot is listened for.
-fn listened(view: View, slot: u64) -> Option<usize>
-    ensures within { IfSome result (λ i. i < 2 * view.entry.layout.waiting) }
+// The bank of a slot, if the slot is listened for.
+fn listened(view: View<'_>, slot: u64) -> Option<Bank<'_>>
+    ensures of { IfSome result (λ b. b.memory ≡ view.entry) }
     ensures first { (t : Stored) → Shows view.entry t → Ready t →
-        MatchOption result (place_of (suc slot) t.banks ≡ length t.banks) (λ i. i ≡ place_of (suc slot) t.banks) }
+        MatchOption result (place_of (suc slot) t.banks ≡ length t.banks) (λ b. b.place ≡ place_of (suc slot) t.banks) }
 {
     bank_with(view, slot.checked_add(1)?)
 }
 
-// The cell of a client in the bank at a place, if no share of it came there.
-fn free_cell(view: View, place: usize, who: usize) -> Option<usize>
-    requires { (place < 2 * view.layout.waiting) × (who < view.layout.clients) }
+// The cell of a client in a bank, if no share of it came there.
+fn free_cell(bank: Bank, who: usize) -> Option<usize>
+    requires { who < bank.memory.layout.clients }
     ensures same { IfSome result (λ i. i ≡ who) }
-    ensures free { (t : Stored) → Shows view.entry t →
-        MatchOption result (is_empty (slice_index_or (bank_at t.banks place).cells who empty) ≡ false) (λ _. is_empty (slice_index_or (bank_at t.banks place).cells who empty) ≡ true) }
+    ensures free { (t : Stored) → Shows bank.entry.memory t →
+        MatchOption result (is_empty (slice_index_or (bank_at t.banks bank.entry.place).cells who empty) ≡ false) (λ _. is_empty (slice_index_or (bank_at t.banks bank.entry.place).cells who empty) ≡ true) }
 {
-    is_empty(view, place, who).then_some(who)
+    bank.is_empty(who).then_some(who)
 }
 
 // The data of a share, if it is the one with which a quorum says that data for that seat.
-fn at_quorum(view: View, place: usize, share: &Share) -> Option<Data>
-    requires { place < 2 * view.layout.waiting }
-    ensures { (t : Stored) → Shows view.entry t →
-        data_found result ≡ pick (nat_le (quorum t.sizes.clients) (suc (alike share.now.seat (data_of share.now.what) (bank_at t.banks place).cells))) (data_of share.now.what ∷ []) [] }
+fn at_quorum(bank: Bank, share: &Share) -> Option<Data>
+    ensures { (t : Stored) → Shows bank.entry.memory t →
+        data_found result ≡ pick (nat_le (quorum t.sizes.clients) (suc (alike share.now.seat (data_of share.now.what) (bank_at t.banks bank.entry.place).cells))) (data_of share.now.what ∷ []) [] }
 {
     // Stays: a cast that is proved to lose nothing, where `try_from` would have an error that can't come.
     let group = GroupSize {
-        clients: view.layout.clients as u16,
+        clients: bank.memory.layout.clients as u16,
     };
-    let sharers = count_alike(view, place, share.seat, &share.what) + 1;
+    let sharers = bank.count_alike(share.seat, &share.what) + 1;
     (sharers >= usize::from(group.quorum())).then_some(share.what)
 }
 
 // Takes a share out of an event's bytes: turned away, or put into its cell, and the data handed in where a quorum says it for the seat.
-// Stays: each check hands on its value or returns its refusal by `let .. else`, a rule of the project; the share is read from one lent slice while the state is written in another.
+// Stays: each check hands on its value or returns its refusal by `let .. else`, a rule of the project; and the bytes beside the memory, since a share is read from one lent slice and the state written in another.
 pub(crate) fn on_share(memory: &mut Memory, bytes: &[u8], out: &mut [u8]) -> Result<usize, Short>
     requires { 137 ≤ length bytes.now }
     ensures { (can : ℕ → Bool) → can 2 ≡ true →
@@ -71,13 +70,14 @@ pub(crate) fn on_share(memory: &mut Memory, bytes: &[u8], out: &mut [u8]) -> Res
     let Some(who) = signer(&memory.layout, &share) else {
         return refuse(out, Refusal::NotServed);
     };
-    let Some(place) = listened(memory.view(), share.what.slot) else {
+    let Some(bank) = listened(memory.view(), share.what.slot) else {
         return refuse(out, Refusal::NotListenedFor);
     };
-    let Some(cell) = free_cell(memory.view(), place, who) else {
+    let Some(cell) = free_cell(bank, who) else {
         return refuse(out, Refusal::SecondShare);
     };
-    let handed_in = at_quorum(memory.view(), place, &share);
+    let handed_in = at_quorum(bank, &share);
+    let place = bank.place;
     let deeds = Deeds {
         handed_in: handed_in.as_slice(),
         ..Deeds::default()

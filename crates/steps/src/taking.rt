@@ -37,16 +37,12 @@ pub fn serve(
 fn take_event(memory: &mut Memory, event: &[u8], out: &mut [u8]) -> Result<usize, Short>
     ensures { Step thin (parse event.now) memory.old memory.new out.old out.new result }
 {
-    // Stays: a match that returns, since the refusal says at which byte the event ends, which `let .. else` does not name.
-    let read = match read_event(event) {
-        Ok(read) => read,
-        Err(garbled) => return write_refused(out, u8::from(Refusal::NoEvent), garbled.place),
-    };
-    match read {
-        Event::OnDuty(duty) => on_duty(memory, &duty, out),
-        Event::Decided(slot, data) => on_decided(memory, slot, &data, out),
-        Event::ShareCame(_) => on_share(memory, &event[1..], out),
-        Event::Block(_) => refuse(out, Refusal::NotServed),
-        Event::Resend => refuse(out, Refusal::NotServed),
+    match read_event(event) {
+        Ok(Event::OnDuty(duty)) => on_duty(memory, &duty, out),
+        Ok(Event::Decided(slot, data)) => on_decided(memory, slot, &data, out),
+        Ok(Event::ShareCame(_)) => on_share(memory, &event[1..], out),
+        Ok(Event::Block(_)) => refuse(out, Refusal::NotServed),
+        Ok(Event::Resend) => refuse(out, Refusal::NotServed),
+        Err(garbled) => write_refused(out, u8::from(Refusal::NoEvent), garbled.place),
     }
 }

@@ -27,13 +27,13 @@ first_inside like (suc m) (x ∷ xs) e = let more = first_inside like m xs e in 
 -- what the first is like, by the one entry that is lent
 pub first_read : {X : Type 0} (like : X → Bool) (x : X) (xs : List X) → x ∷ [] ≡ take 1 xs → like x ≡ first_is like xs
 unfolding first_is
-first_read like x [] e = absurd (let z : ◌≡◌ {A = ℕ} 1 0 = ap length e in omega arith)
+first_read like x [] e = absurd cc
 first_read like x (y ∷ ys) e = let same : x ≡ y = cc in ap like same
 
 pub first_none : {X : Type 0} (like : X → Bool) (xs : List X) → [] ≡ take 1 xs → false ≡ first_is like xs
 unfolding first_is
 first_none like [] e = refl
-first_none like (y ∷ ys) e = absurd (let z : ◌≡◌ {A = ℕ} 0 1 = ap length e in omega arith)
+first_none like (y ∷ ys) e = absurd cc
 
 -- the first that passes is its like: it takes that one's place; else it goes before it
 put_there : {X : Type 0} (test like : X → Bool) (x : X) (xs : List X) → first_is like (drop (first_passing test xs) xs) ≡ true → put_by test like x xs ≡ set xs (first_passing test xs) x

@@ -14,10 +14,16 @@ use Rattle.store.specs.Rooms.{room_of}
 use Rattle.store.specs.Relisted.{Relisted}
 
 -- what is done with the rows of a list, as its region is lent, is done with the client's
-pub relist : (w n : ℕ) (r r' : Region) (z : Sizes) (s : Range ℕ) (xs now part : List ℕ) (t t' : Stored) (rs rs' : List (List ℕ)) → r' ≡ r → n ≡ room_of r' z → Spans z r' s → now ≡ take (s.end - s.start) (drop s.start xs) → Held z xs t → Holds w (room_of r t.sizes) rs (content r t) → (Holds w n rs now → part ≡ counted w n rs') → Relisted w r rs' t t' → Held z (put_mid s.start (s.end - s.start) xs part) t'
-relist w n r r' z s xs now part t t' rs rs' er en p is h held done x =
-    let q : Spans z r s = subst (λ (y : Region). Spans z y s) er p in
-    let room : n ≡ room_of r t.sizes = en ∙ ap (λ (y : Region). room_of y z) er ∙ ap (room_of r) (sym h.sized) in
+pub relist : (w n : ℕ) (r : Region) (z : Sizes) (s : Range ℕ) (xs now part : List ℕ) (t t' : Stored) (rs rs' : List (List ℕ)) → n ≡ room_of r z → Spans z r s → now ≡ take (s.end - s.start) (drop s.start xs) → Held z xs t → Holds w (room_of r t.sizes) rs (content r t) → (Holds w n rs now → part ≡ counted w n rs') → Relisted w r rs' t t' → Held z (put_mid s.start (s.end - s.start) xs part) t'
+relist w n r z s xs now part t t' rs rs' en p is h held done x =
+    let room : n ≡ room_of r t.sizes = en ∙ ap (room_of r) (sym h.sized) in
     let there : Holds w n rs now =
-    subst (λ (k : ℕ). Holds w k rs now) (sym room) (subst (λ (ys : List ℕ). Holds w (room_of r t.sizes) rs ys) (sym (is ∙ shown z r s xs t q h)) held) in
-    written z r s xs t q h part t' x.well x.sized (ap (set (regions t) (place r)) (done there ∙ ap (λ k. counted w k rs') room) ∙ x.is)
+    subst (λ (k : ℕ). Holds w k rs now) (sym room) (subst (λ (ys : List ℕ). Holds w (room_of r t.sizes) rs ys) (sym (is ∙ shown z r s xs t p h)) held) in
+    written z r s xs t p h part t' x.well x.sized (ap (set (regions t) (place r)) (done there ∙ ap (λ k. counted w k rs') room) ∙ x.is)
+
+-- the same with a row that is put into as many as there is room for
+pub relist_with : (w n : ℕ) (r : Region) (z : Sizes) (s : Range ℕ) (xs now part row row' : List ℕ) (t t' : Stored) (rs : List (List ℕ)) (made : ℕ → List ℕ → List (List ℕ)) → n ≡ room_of r z → Spans z r s → now ≡ take (s.end - s.start) (drop s.start xs) → row ≡ row' → Held z xs t → Holds w (room_of r t.sizes) rs (content r t) → (Holds w n rs now → part ≡ counted w n (made n row)) → Relisted w r (made (room_of r t.sizes) row') t t' → Held z (put_mid s.start (s.end - s.start) xs part) t'
+relist_with w n r z s xs now part row row' t t' rs made en p is er h held done x =
+    let room : n ≡ room_of r t.sizes = en ∙ ap (room_of r) (sym h.sized) in
+    relist w n r z s xs now part t t' rs (made (room_of r t.sizes) row') en p is h held
+    (λ q. done q ∙ ap (counted w n) (ap (λ k. made k row) room ∙ ap (made (room_of r t.sizes)) er)) x

@@ -35,17 +35,17 @@ module _ {A : Type 0} (numbers : A → List ℕ) (xs : List A) (i : ℕ) where
   row_there rows e = e ∙ ap (take 1) (drop-map numbers i xs) ∙ take-map numbers 1 (drop i xs)
 
   one : (ys : List A) (row : List ℕ) (x : A) (from : List ℕ → A) → ((y : A) → from (numbers y) ≡ y) → row ∷ [] ≡ map numbers ys → x ≡ from row → x ∷ [] ≡ ys
-  one [] row x from back e is = absurd (let z : ◌≡◌ {A = ℕ} 1 0 = ap length e in omega arith)
+  one [] row x from back e is = absurd cc
   one (y ∷ []) row x from back e is =
       let same : row ≡ numbers y = cc in
       ap (λ v. v ∷ []) (is ∙ ap from same ∙ back y)
   one (y ∷ (v ∷ vs)) row x from back e is =
-      absurd (let z : 1 ≡ suc (suc (length (map numbers vs))) = ap length e in omega arith)
+      absurd cc
 
   no_row : (ys : List A) → [] ≡ map numbers ys → [] ≡ ys
   no_row [] e = refl
   no_row (y ∷ ys) e =
-      absurd (let z : 0 ≡ suc (length (map numbers ys)) = ap length e in omega arith)
+      absurd cc
 
   pub read_there : (row : List ℕ) (x : A) (from : List ℕ → A) → ((y : A) → from (numbers y) ≡ y) → row ∷ [] ≡ take 1 (drop i (map numbers xs)) → x ≡ from row → x ∷ [] ≡ take 1 (drop i xs)
   read_there row x from back e is = one (take 1 (drop i xs)) row x from back (row_there (row ∷ []) e) is
@@ -91,8 +91,8 @@ data_none t i = none_there data_numbers t.ahead i
 -- a signer that is a byte is one in its row
 signer_byte : (row : List ℕ) (i : ℕ) (ss : List client.Share) → row ∷ [] ≡ map share_numbers (take 1 (drop i ss)) → AllByRecursion (λ (x : client.Share). x.who < 256) ss → get_or row 0 0 < 256
 unfolding share_numbers
-signer_byte row zero [] e all = absurd (let v : ◌≡◌ {A = ℕ} 1 0 = ap length e in omega arith)
-signer_byte row (suc i) [] e all = absurd (let v : ◌≡◌ {A = ℕ} 1 0 = ap length e in omega arith)
+signer_byte row zero [] e all = absurd cc
+signer_byte row (suc i) [] e all = absurd cc
 signer_byte row zero (x ∷ ss) e all =
     let same : row ≡ x.who ∷ (x.seat ∷ data_numbers x.what) = cc in
     omega (arith, all.0, ap (λ r. get_or r 0 0) same)

@@ -9,6 +9,8 @@ use Rattle.past.specs.Past.{row_of}
 use Rattle.stored.specs.Stored.{Stored, with_past, with_queue, with_active, with_ahead, with_own}
 use Rattle.stored.specs.Numbers.{header, duty_numbers, data_numbers, share_numbers, listed, regions}
 use Rattle.stored.specs.Kept.{Well}
+use Rattle.layout.specs.Memory.{Holds}
+use Rattle.layout.specs.declared.memory.Memory.{Memory}
 use Rattle.layout.specs.declared.region.Region.{Region}
 use Rattle.layout.specs.declared.region.Region.TheVariants.{Past, Queue, Active, Ahead, Own}
 use Rattle.layout.proofs.Places.{place}
@@ -21,6 +23,18 @@ pub record Relisted (w : ℕ) (r : Region) (rs : List (List ℕ)) (t t' : Stored
   pub well : Well t'
   pub sized : t'.sizes ≡ t.sizes
   pub is : set (regions t) (place r) (counted w (room_of r t.sizes) rs) ≡ regions t'
+
+-- what a call makes of a memory: the layout and the lent slice stay, and a list has the rows that f makes of the client that it held
+pub record Relists (before after : Memory) (w : ℕ) (r : Region) (f : Stored → List (List ℕ)) : Type 0 where
+  pub layout : after.layout ≡ before.layout
+  pub lent : after.numbers.ghost_name ≡ before.numbers.ghost_name
+  pub holds : (t t' : Stored) → Holds before t → Relisted w r (f t) t t' → Holds after t'
+
+-- the same where something is asked of the client that it held
+pub record RelistsIf (before after : Memory) (w : ℕ) (r : Region) (P : Stored → Type 0) (f : Stored → List (List ℕ)) : Type 0 where
+  pub layout : after.layout ≡ before.layout
+  pub lent : after.numbers.ghost_name ≡ before.numbers.ghost_name
+  pub holds : (t t' : Stored) → Holds before t → P t → Relisted w r (f t) t t' → Holds after t'
 
 counted_map : {A : Type 0} (w n : ℕ) (numbers : A → List ℕ) (xs : List A) → counted w n (map numbers xs) ≡ listed w n numbers xs
 unfolding listed
@@ -85,7 +99,7 @@ map_kept f test pass same (x ∷ xs) =
     ∙ elim (pass x) as (λ b. cond b (f x ∷ map f (kept pass xs)) (map f (kept pass xs)) ≡ map f (cond b (x ∷ kept pass xs) (kept pass xs))) [ true ↦ refl | false ↦ refl ]
 
 -- the same, by rows that are equal
-relisted_by : (w : ℕ) (r : Region) (rs rs' : List (List ℕ)) (t t' : Stored) → rs ≡ rs' → Relisted w r rs' t t' → Relisted w r rs t t'
+pub relisted_by : (w : ℕ) (r : Region) (rs rs' : List (List ℕ)) (t t' : Stored) → rs ≡ rs' → Relisted w r rs' t t' → Relisted w r rs t t'
 relisted_by w r rs rs' t t' e x =
     record { well = x.well; sized = x.sized; is = ap (λ v. set (regions t) (place r) (counted w (room_of r t.sizes) v)) e ∙ x.is }
 

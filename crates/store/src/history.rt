@@ -8,16 +8,15 @@ ghost use Rattle.layout.specs.Memory.{Shows, Turns};
 ghost use Rattle.lists.specs.Lists.{Region as Holds, counted};
 
 use crate::kinds::Past;
-use crate::listed::Listed;
-use layout::{Memory, Region, View};
+use crate::listed::{Listed, part};
+use layout::{Memory, View};
 use wire::{Data, Duty, Entry};
 
 // One entry of the past more, of which the largest targets stay, each once.
 pub fn remember(memory: &mut Memory, entry: Entry)
     ensures { Turns memory.old memory.new (λ t. with_past (keep t.sizes.kept (entry_of entry) t.past) t) }
 {
-    let span = memory.layout.span(Region::Past);
-    let most = memory.layout.kept;
+    let (span, most) = part::<Past, _>(memory.layout);
     keep_one(&mut memory.numbers[span], most, entry);
 }
 
@@ -29,7 +28,7 @@ pub fn is_valid(view: View, data: &Data, duty: &Duty) -> bool
 }
 
 // One entry more in the region of the past.
-// Stays: the region and its room as parameters, as for the other lists.
+// Stays: the region and its room as parameters, as for the other lists; and the cast, since std has no `From<usize>` for u64.
 fn keep_one(region: &mut [u64], most: usize, entry: Entry)
     requires { (1 + 2 * most ≤ length region.old) × (most ≤ 4096) }
     ensures { (ps : List SomePast) → Holds 2 most (map row_of ps) region.old → region.new ≡ counted 2 most (map row_of (keep most (entry_of entry) ps)) }

@@ -7,7 +7,7 @@ ghost use Rattle.layout.specs.Memory.{Turns};
 ghost use Rattle.store.specs.Among.{among};
 ghost use Rattle.store.specs.Relisted.{Relisted};
 
-use crate::listed::{Listed, room};
+use crate::listed::{Listed, part};
 use layout::Memory;
 
 // A list whose entries go by their slots.
@@ -46,9 +46,7 @@ fn keep<L: Slotted<W>, const W: usize, F: Fn(u64) -> bool>(memory: &mut Memory, 
     requires { F.IsAlwaysCallable which }
     ensures { (p : ℕ → Bool) → ((k : ℕ) (b : Bool) → F.post which k b → b ≡ p k) → Turns memory.old memory.new (L.only p) }
 {
-    let region = L::REGION;
-    let span = memory.layout.span(region);
-    let room = room(memory.layout, region);
+    let (span, room) = part::<L, W>(memory.layout);
     let place = L::SLOT;
     lists::keep(&mut memory.numbers[span], W, room, |row| which(row[place]));
 }

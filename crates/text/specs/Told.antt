@@ -1,4 +1,4 @@
--- What is written of the entries of a row is what each impl of `Entry` says: the proofs of its law.
+-- What is written of the entries of a row is what each impl of `Deed` says: the proofs of its law.
 use Rattle.std.specs.Prelude.{◌≡◌, ℕ, zero, suc, List, ◌∷◌, map, drop, refl}
 use Rattle.std.proofs.Common.{ap}
 use Rattle.wire.specs.Bytes.{share_from, data_from, duty_from}

@@ -1,5 +1,7 @@
 // Answers as text.
-ghost use Rattle.std.specs.Prelude.{◌≡◌, ℕ, List, ◌++◌, map, OnOk, string_bytes, MatchResult};
+ghost use Rattle.std.specs.Prelude.{◌≡◌, ℕ, List, ◌++◌, map, codes, decimal, Some, OnOk, string_bytes, MatchResult};
+ghost use Rattle.std.proofs.Common.{ap};
+ghost use Rattle.wire.specs.Text.{data_text, duty_text, share_text};
 ghost use Rattle.wire.specs.Bytes.{share_from, data_from, duty_from};
 ghost use Rattle.events.specs.Layout.{entries, number_from};
 ghost use Rattle.events.specs.declared.row.Row.{Row};
@@ -12,69 +14,101 @@ ghost use Rattle.text.specs.Told.{shares_told, data_told, duties_told, slots_tol
 use crate::errors::AnswerError;
 use events::{Answer, Row, Rows};
 use std::alloc::{AllocError, Global};
+use std::fmt::Display;
 use wire::{Data, Duty, Fixed, Share};
 
-// What a client did: an entry of a row of an answer.
-trait Deed: Fixed {
-    // What is told of an entry, by the bytes that it is read from.
-    ghost told: { List ℕ → List ℕ };
+// What a client did: an entry of a row of an answer. It is told by a verb and the entry's text.
+trait Deed: Fixed + Display {
+    // The verb, and the space behind it.
+    ghost verb: { List ℕ };
+
+    // The text of an entry, by the bytes that it is read from.
+    ghost shown: { List ℕ → List ℕ };
 
     // What is told of a row.
     ghost all: { Row → List (List ℕ) };
 
-    // Writes a lead, and what is told of it.
-    fn tell(&self, lead: &str, text: &mut String) -> Result<(), AllocError>
-        ensures { OnOk result ((bs : List ℕ) → Self.Fixed.reads bs self.now → string_bytes text.new ≡ string_bytes text.old ++ (lead.now ++ told bs)) };
+    // The verb, and the space behind it.
+    // Stays: not a constant, since a clause would compare the place of its text too.
+    fn verb() -> &'static str
+        ensures { result.now ≡ verb };
 
-    ghost each: { (r : Row) → all r ≡ entries Self.Fixed.width told r.count r.bytes.now };
+    // Writes a lead, and what is told of an entry.
+    fn tell(&self, lead: &str, text: &mut String) -> Result<(), AllocError>
+        ensures { OnOk result ((bs : List ℕ) → Self.Fixed.reads bs self.now → string_bytes text.new ≡ string_bytes text.old ++ (lead.now ++ (verb ++ shown bs))) }
+    {
+        write!(text, "{lead}{}{self}", Self::verb())
+    }
+
+    // An entry is printed as the text of its bytes.
+    ghost prints: { (bs : List ℕ) (x : Self) → Self.Fixed.reads bs x → Self.Display.output x ≡ Some (shown bs) };
+
+    // What is told of a row is what is told of its entries.
+    ghost each: { (r : Row) → all r ≡ entries Self.Fixed.width (λ bs. verb ++ shown bs) r.count r.bytes.now };
 }
 
 impl Deed for Share {
-    ghost told = { λ bs. sends_text (share_from bs) };
+    ghost verb = { codes "sends " };
+
+    ghost shown = { λ bs. share_text (share_from bs) };
 
     ghost all = { λ r. map sends_text (row_shares r) };
 
-    ghost each = { λ r. shares_told r };
-
-    fn tell(&self, lead: &str, text: &mut String) -> Result<(), AllocError> {
-        write!(text, "{lead}sends {self}")
+    fn verb() -> &'static str {
+        "sends "
     }
+
+    ghost prints = { λ bs x e. ap (λ s. Some (share_text s)) e };
+
+    ghost each = { λ r. shares_told r };
 }
 
 impl Deed for Data {
-    ghost told = { λ bs. hands_in_text (data_from bs) };
+    ghost verb = { codes "hands in " };
+
+    ghost shown = { λ bs. data_text (data_from bs) };
 
     ghost all = { λ r. map hands_in_text (row_data r) };
 
-    ghost each = { λ r. data_told r };
-
-    fn tell(&self, lead: &str, text: &mut String) -> Result<(), AllocError> {
-        write!(text, "{lead}hands in {self}")
+    fn verb() -> &'static str {
+        "hands in "
     }
+
+    ghost prints = { λ bs x e. ap (λ d. Some (data_text d)) e };
+
+    ghost each = { λ r. data_told r };
 }
 
 impl Deed for Duty {
-    ghost told = { λ bs. begins_text (duty_from bs) };
+    ghost verb = { codes "begins " };
+
+    ghost shown = { λ bs. duty_text (duty_from bs) };
 
     ghost all = { λ r. map begins_text (row_duties r) };
 
-    ghost each = { λ r. duties_told r };
-
-    fn tell(&self, lead: &str, text: &mut String) -> Result<(), AllocError> {
-        write!(text, "{lead}begins {self}")
+    fn verb() -> &'static str {
+        "begins "
     }
+
+    ghost prints = { λ bs x e. ap (λ y. Some (duty_text y)) e };
+
+    ghost each = { λ r. duties_told r };
 }
 
 impl Deed for u64 {
-    ghost told = { λ bs. ends_text (number_from bs) };
+    ghost verb = { codes "ends " };
+
+    ghost shown = { λ bs. decimal (number_from bs) };
 
     ghost all = { λ r. map ends_text (row_slots r) };
 
-    ghost each = { λ r. slots_told r };
-
-    fn tell(&self, lead: &str, text: &mut String) -> Result<(), AllocError> {
-        write!(text, "{lead}ends {self}")
+    fn verb() -> &'static str {
+        "ends "
     }
+
+    ghost prints = { λ bs x e. ap (λ k. Some (decimal k)) e };
+
+    ghost each = { λ r. slots_told r };
 }
 
 // What is told of an answer so far, and what stands before the next deed.
@@ -120,7 +154,7 @@ fn told(heap: Global, rows: &Rows) -> Result<String, AnswerError>
 }
 
 // An answer as a line. One with a row whose bytes end before its entries do has none.
-// Stays: Display has an output for each value, and can't say why an answer has none.
+// Stays: not by Display, which can't say why an answer has no text.
 #[tactic(auto, using(crate::proofs::Shorts::memory_exit), unfolding(crate::specs::Text::answer_text, events::specs::Meaning::answer_of))]
 pub fn answer_text(heap: Global, answer: &Answer) -> Result<String, AnswerError>
     ensures { MatchResult result (λ t. string_bytes t ≡ answer_text (answer_of answer.now)) (IfCut (ShortAnswer answer.now)) }

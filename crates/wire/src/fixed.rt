@@ -18,6 +18,7 @@ pub trait Fixed: Sized {
     ghost reads: { List ℕ → Self → Type 0 };
 
     // How many bytes it has.
+    // Stays: a public function that callers have and that promises `width`; a constant would take it from them.
     fn size() -> usize
         ensures { result ≡ width };
 

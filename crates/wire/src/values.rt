@@ -1,4 +1,4 @@
-// What is signed, for which duty, and a client's share of it.
+// What is signed, for which duty, a client's share of it, and the entry of the past that is made of it.
 ghost use Rattle.std.specs.Prelude.{◌≡◌, ◌==◌};
 ghost use Rattle.protocol.specs.Data.{same as same_data, past_of};
 ghost use Rattle.wire.specs.Meaning.{root_of, data_of, entry_of};
@@ -52,6 +52,7 @@ impl Data {
 }
 
 // Whether two that are handed over by value are equal in every field.
+// Stays: by value, since that each number of a root fits its eight bytes, of which the proof is made, is not handed on from behind a `&Data`.
 fn are_same(one: Data, other: Data) -> bool
     ensures { result ≡ same_data (data_of one) (data_of other) }
 {

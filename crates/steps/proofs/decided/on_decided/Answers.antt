@@ -1,5 +1,5 @@
 -- Nothing happens, or it is signed.
-use Rattle.std.proofs.Common.{◌≡◌, ℕ, List, [], ◌∷◌, map, refl, sym, ap, ◌∙◌, subst}
+use Rattle.std.proofs.Common.{ℕ, List, [], ◌∷◌, refl, sym, ap, ◌∙◌, subst}
 use Rattle.std.proofs.lemmas.Result.{err_from_is_err_and}
 use Rattle.protocol.specs.Data.{Data, Duty, first_of}
 use Rattle.protocol.specs.Client.{Share, decided, does, own_with}
@@ -10,7 +10,7 @@ use Rattle.layout.specs.Layout.{sizes}
 use Rattle.store.specs.Store.{duty_found}
 use Rattle.keeper.specs.Step.{remembered, settle}
 use Rattle.steps.proofs.Serving.{serves_done, serves_failed, serves_still, held_by}
-use Rattle.steps.proofs.Writing.{one_duty, deeds_are}
+use Rattle.steps.proofs.Writing.{nothing, sending}
 use Rattle.steps.proofs.Signing.{decided_taken, nothing_done, signed_done}
 use Rattle.steps.proofs.decided.on_decided.Goals as goal
 
@@ -22,8 +22,7 @@ returns-in_default c can on =
       serves =
           λ t h ready.
           let d : Data = data_of c.args.data.now in
-          let none = c.default.ensures in
-          let same = deeds_are c.default.result [] [] [] (ap (map share_of) none.0) (ap (map data_of) none.1.0) (ap (map duty_of) none.1.1.0) none.1.1.1 in
+          let same = nothing c.default.result c.default.ensures in
           let still = nothing_done can t c.args.slot d (c.in_default.ensures t (c.view.ensures.shows t h) ready) in
           serves_still (sizes c.args.memory.now.layout) can (decided c.args.slot (data_of c.args.data.now)) c.args.memory.now.numbers.now c.args.out.now c.write_deeds.new.out t _ (decided_taken can t c.args.slot d on) (still.1 ∙ sym same) c.write_deeds.result (subst (Held (sizes c.args.memory.now.layout) c.args.memory.now.numbers.now) (sym still.0) h) c.write_deeds.ensures;
     }
@@ -42,9 +41,7 @@ returns-in_err-n c can on =
           let form : ℕ → Share = λ w. record { who = w; what = d; seat = y.seat } in
           let me = ap (λ z. z.me) h.sized in
           let signs = signed_done can t c.args.slot d y (c.in-Some.ensures t (c.view.ensures.shows t h) ready) h.well.sizes.some_wait ready row (c.upcoming-begun.ensures t (c.view-2.ensures.shows t h)) in
-          let none = c.default-2.ensures in
-          let same : does (form c.args.memory.now.layout.me ∷ []) (map data_of c.default-2.result.handed_in.now) (map duty_of c.as_slice.result.now) c.default-2.result.ended.now ≡ does (form c.args.memory.now.layout.me ∷ []) [] row [] =
-          deeds_are (record { sent = record { ref_ptr = (0, 0); now = record { who = c.args.memory.now.layout.me; what = c.args.data.now; seat = c.in-Some.duty.seat } ∷ [] }; handed_in = c.default-2.result.handed_in; begun = c.as_slice.result; ended = c.default-2.result.ended }) (form c.args.memory.now.layout.me ∷ []) [] row refl (ap (map data_of) none.1.0) (one_duty c.upcoming-begun.result c.as_slice.result.now c.as_slice.ensures) none.1.1.1 in
+          let same = sending c.default-2.result (record { who = c.args.memory.now.layout.me; what = c.args.data.now; seat = c.in-Some.duty.seat }) c.as_slice.result c.upcoming-begun.result c.as_slice.ensures c.default-2.ensures in
           let says = signs.1 ∙ ap (λ w. does (form w ∷ []) [] row []) me ∙ sym same in
           let failed = err_from_is_err_and c.from_residual.result c.from_residual.ensures.1 in
           serves_failed (sizes c.args.memory.now.layout) can (decided c.args.slot (data_of c.args.data.now)) c.args.memory.now.numbers.now c.args.out.now c.write_deeds-2.new.out t _ (decided_taken can t c.args.slot d on) says failed.0 c.from_residual.result failed.1 c.in_err-n.ensures;
@@ -64,9 +61,7 @@ returns c can on =
           let form : ℕ → Share = λ w. record { who = w; what = d; seat = y.seat } in
           let me = ap (λ z. z.me) h.sized in
           let signs = signed_done can t c.args.slot d y (c.in-Some.ensures t (c.view.ensures.shows t h) ready) h.well.sizes.some_wait ready row (c.upcoming-begun.ensures t (c.view-2.ensures.shows t h)) in
-          let none = c.default-2.ensures in
-          let same : does (form c.args.memory.now.layout.me ∷ []) (map data_of c.default-2.result.handed_in.now) (map duty_of c.as_slice.result.now) c.default-2.result.ended.now ≡ does (form c.args.memory.now.layout.me ∷ []) [] row [] =
-          deeds_are (record { sent = record { ref_ptr = (0, 0); now = record { who = c.args.memory.now.layout.me; what = c.args.data.now; seat = c.in-Some.duty.seat } ∷ [] }; handed_in = c.default-2.result.handed_in; begun = c.as_slice.result; ended = c.default-2.result.ended }) (form c.args.memory.now.layout.me ∷ []) [] row refl (ap (map data_of) none.1.0) (one_duty c.upcoming-begun.result c.as_slice.result.now c.as_slice.ensures) none.1.1.1 in
+          let same = sending c.default-2.result (record { who = c.args.memory.now.layout.me; what = c.args.data.now; seat = c.in-Some.duty.seat }) c.as_slice.result c.upcoming-begun.result c.as_slice.ensures c.default-2.ensures in
           let says = signs.1 ∙ ap (λ w. does (form w ∷ []) [] row []) me ∙ sym same in
           let leaves : ℕ → Stored =
           λ w. settle t.queue (with_own (first_of t.sizes.waiting (own_with (form w) t.own)) (with_at_hand 0 (remembered d t))) in

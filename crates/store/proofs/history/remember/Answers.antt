@@ -15,15 +15,15 @@ use Rattle.store.proofs.history.remember.Goals as goal
 pub returns : goal.returns
 returns c =
     let p : Past = entry_of c.args.entry in
-    let n : ℕ = c.args.memory.now.layout.kept in
+    let n : ℕ = c.part-most.result.1 in
     record {
       layout = refl;
       lent = refl;
       holds =
           λ t h.
           let ps : List Past = keep t.sizes.kept p t.past in
-          let same : t.sizes.kept ≡ n = ap (λ z. z.kept) h.sized in
-          relist 2 n region.Past region.Past (sizes c.args.memory.now.layout) c.span-span.result c.args.memory.now.numbers.now _ c.keep_one.new.region t (with_past ps t) (map row_of t.past) (map row_of ps) refl refl c.span-span.ensures refl h (past_held t h.well)
+          let same : t.sizes.kept ≡ n = ap (λ z. z.kept) h.sized ∙ sym c.part-most.ensures.room in
+          relist 2 n region.Past (sizes c.args.memory.now.layout) c.part-most.result.0 c.args.memory.now.numbers.now _ c.keep_one.new.region t (with_past ps t) (map row_of t.past) (map row_of ps) c.part-most.ensures.room c.part-most.ensures.spans refl h (past_held t h.well)
           (λ r. c.keep_one.ensures t.past r ∙ ap (λ k. counted 2 n (map row_of (keep k p t.past))) (sym same))
           (past_relisted ps t h.well (keep_few t.sizes.kept p t.past));
     }

@@ -7,6 +7,6 @@ use Rattle.store.proofs.placing.place_for.Goals as goal
 
 pub returns : goal.returns
 returns g c p computes rs r =
-    let test : List ℕ → Bool = λ row. p (get_or row c.args.slot_at 0) in
-    let found = c.find.ensures test (λ row b long post. search (rules, computes)) rs r in
+    let test : List ℕ → Bool = λ row. p (get_or row g.L.Slotted.SLOT 0) in
+    let found = c.find.ensures test (λ row b long post. search (rules, computes, c.SLOT-slot.ensures)) rs r in
     place_is c.find.result (first_passing test rs) (length rs) c.unwrap_or.result found (first_most test rs) (c.unwrap_or.ensures ∙ ap (λ n. unwrap_or c.find.result n) (c.count.ensures.many rs r))

@@ -5,4 +5,4 @@ use Rattle.text.proofs.answers.Line.add.Given as goal
 
 abbrev pub invariant-loop-i : goal.invariant-loop-i
 invariant-loop-i g l =
-    (more : List (List ℕ)) → line_with l.self more ≡ line_with l.initial.self (entries g.T.Fixed.width g.T.Deed.told l.i l.row.bytes.now ++ more)
+    (more : List (List ℕ)) → line_with l.self more ≡ line_with l.initial.self (entries g.T.Fixed.width (λ bs. g.T.Deed.verb ++ g.T.Deed.shown bs) l.i l.row.bytes.now ++ more)
