@@ -25,7 +25,7 @@ pub fn read_event(bytes: &[u8]) -> Result<Event<'_>, Garbled>
     ensures carried { readable (read_as result) ≡ true }
     ensures exact { EventExact result }
 {
-    let (number, _) = bytes.split_first().ok_or(NoKind)?;
+    let (number, _) = bytes.split_first().ok_or(Garbled { place: 0 })?;
     match EventKind::try_from(*number)? {
         EventKind::Duty => Ok(Event::OnDuty(last(bytes, 1)?)),
         EventKind::Decided => {

@@ -1,6 +1,5 @@
 // What is done with a list.
 // Stays: the region and its room as parameters; a struct that holds the lent part of a memory was tried, and what the part becomes was lost to its caller's proof.
-// `remove` and `keep` take any width, a number, where `insert` and `replace` have it from their row: they take no row, and a promise for each width that a caller has at run time stands.
 ghost use Rattle.std.specs.Prelude.{◌≡◌, ℕ, ◌+◌, ◌*◌, ◌≤◌, Bool, List as Listed, length};
 ghost use Rattle.rows.specs.Rows.{Takes, Tests};
 ghost use Rattle.lists.specs.Lists.{Inserts, Removes, Replaces, Keeps};
@@ -8,16 +7,16 @@ ghost use Rattle.lists.specs.Lists.{Inserts, Removes, Replaces, Keeps};
 use crate::reads::count;
 
 // Puts an entry in at a place, as those behind it move up; where there is no room the last one goes.
-pub fn insert<const W: usize>(region: &mut [u64], room: usize, place: usize, row: &[u64; W])
-    requires { 1 + W * room ≤ length region.old }
-    ensures { Inserts W room place row.now region.old region.new }
+pub fn insert(region: &mut [u64], width: usize, room: usize, place: usize, row: &[u64])
+    requires { (1 + width * room ≤ length region.old) × (length row.now ≡ width) }
+    ensures { Inserts width room place row.now region.old region.new }
 {
     let entries = count(region, room);
     if place > entries || place >= room {
         return;
     }
     let behind = entries.min(room - 1);
-    rows::put(&mut region[1..], W * place, W * behind, row);
+    rows::put(&mut region[1..], width * place, width * behind, row);
     region[0] = behind as u64 + 1;
 }
 
@@ -35,15 +34,15 @@ pub fn remove(region: &mut [u64], width: usize, room: usize, place: usize)
 }
 
 // Puts an entry in the place of another.
-pub fn replace<const W: usize>(region: &mut [u64], room: usize, place: usize, row: &[u64; W])
-    requires { 1 + W * room ≤ length region.old }
-    ensures { Replaces W room place row.now region.old region.new }
+pub fn replace(region: &mut [u64], width: usize, room: usize, place: usize, row: &[u64])
+    requires { (1 + width * room ≤ length region.old) × (length row.now ≡ width) }
+    ensures { Replaces width room place row.now region.old region.new }
 {
     if place >= count(region, room) {
         return;
     }
-    let start = 1 + W * place;
-    region[start..start + W].copy_from_slice(row);
+    let start = 1 + width * place;
+    region[start..start + width].copy_from_slice(row);
 }
 
 // Keeps those that pass, in their order.

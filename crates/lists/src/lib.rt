@@ -8,4 +8,4 @@ mod reads;
 
 pub use changes::{insert, keep, remove, replace};
 pub use list::List;
-pub use reads::count;
+pub use reads::{at, count, find};

@@ -112,8 +112,9 @@ fn is_valid_for_a_duty(rt: HostRuntime) {
         committee: 2,
         seat: 1,
     };
-    let past = [[4u64, 5]];
-    assert!(rt; past::is_valid(&past, &attestation(7, 2, 5, 6), &duty));
+    let region = [4u64, 5];
+    let past = past::pairs(&region, 1);
+    assert!(rt; past::is_valid(past, &attestation(7, 2, 5, 6), &duty));
     // another slot, another committee, a source at or after its target, unsafe
     let bad = [
         attestation(8, 2, 5, 6),
@@ -124,8 +125,9 @@ fn is_valid_for_a_duty(rt: HostRuntime) {
         attestation(7, 2, 3, 6),
     ];
     for data in &bad {
-        assert!(rt; !past::is_valid(&past, data, &duty));
+        assert!(rt; !past::is_valid(past, data, &duty));
     }
-    // unsafe with that past, and not with none
-    assert!(rt; past::is_valid(&[], &attestation(7, 2, 3, 6), &duty));
+    // unsafe with that past, and not with none, whatever the numbers are
+    let none = past::pairs(&region, 0);
+    assert!(rt; past::is_valid(none, &attestation(7, 2, 3, 6), &duty));
 }

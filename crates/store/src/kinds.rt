@@ -16,18 +16,23 @@ use layout::Region;
 use wire::{Data, Duty, Entry, Share};
 
 // The past, the largest target first.
+#[derive(Clone, Copy)]
 pub struct Past;
 
 // The duties that wait, the first that waits first.
+#[derive(Clone, Copy)]
 pub struct Waiting;
 
 // The duties that are being decided, the last begun first.
+#[derive(Clone, Copy)]
 pub struct Deciding;
 
 // The data that is ahead, by slots.
+#[derive(Clone, Copy)]
 pub struct Ahead;
 
 // The own shares, the largest slot first.
+#[derive(Clone, Copy)]
 pub struct Own;
 
 impl Listed<2> for Past {

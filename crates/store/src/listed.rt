@@ -77,7 +77,7 @@ pub(crate) fn insert<L: Listed<W>, const W: usize>(
 {
     let (span, room) = part::<L, W>(memory.layout);
     let row = entry.to_numbers();
-    lists::insert(&mut memory.numbers[span], room, place, &row);
+    lists::insert(&mut memory.numbers[span], W, room, place, &row);
 }
 
 // Cuts the entry at a place out.

@@ -65,9 +65,9 @@ fn put_by<L: Slotted<W>, const W: usize, F: Fn(u64) -> bool>(
     let list = List::<W>::new(region, room);
     let place = place_for::<L, W, _>(list, before);
     if has_slot::<L, W>(list, place, row) {
-        lists::replace(region, room, place, row);
+        lists::replace(region, W, room, place, row);
     } else {
-        lists::insert(region, room, place, row);
+        lists::insert(region, W, room, place, row);
     }
 }
 

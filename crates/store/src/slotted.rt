@@ -31,7 +31,19 @@ pub trait Slotted<const W: usize>: Listed<W> {
 pub fn drop_slots<L: Slotted<W>, const W: usize>(memory: &mut Memory, slots: &[u64])
     ensures { Turns memory.old memory.new (L.only (λ k. not (among k slots.now))) }
 {
-    keep::<L, W, _>(memory, |slot| !slots.contains(&slot));
+    keep::<L, W, _>(memory, |slot| !is_among(slot, slots));
+}
+
+// Whether a slot is one of these.
+// Stays: a loop to the end, which looks at several at once; `contains`, which stops at the first, took more than twice as long for 64 that aren't there.
+fn is_among(slot: u64, slots: &[u64]) -> bool
+    ensures { result ≡ among slot slots.now }
+{
+    let mut found = false;
+    for other in slots {
+        found |= *other == slot;
+    }
+    found
 }
 
 // What is for slots before this one goes.

@@ -1,4 +1,5 @@
 mod Doings
 mod Listed
+mod Parts
 mod Shorts
 mod RootLaws

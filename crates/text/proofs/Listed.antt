@@ -1,12 +1,10 @@
 -- The lines of a block, of raw bytes and of the past.
-use Rattle.std.proofs.Common.{◌≡◌, ℕ, ◌+◌, ◌-◌, ◌/◌, ◌%◌, ◌<◌, ◌≤◌, ◌^◌, true, false, Some, ◌==◌, List, [], ◌∷◌, ◌++◌, map, length, take, drop, slice_index_or, slice_index, codes, refl, sym, ap, ◌∙◌, arith, append_assoc, reverse}
+use Rattle.std.proofs.Common.{◌≡◌, ℕ, ◌+◌, ◌-◌, ◌/◌, ◌%◌, ◌<◌, ◌≤◌, true, false, ◌==◌, List, [], ◌∷◌, ◌++◌, map, length, take, drop, slice_index_or, codes, refl, sym, ap, ◌∙◌, arith, append_assoc, reverse}
 use mathlib.Core.List.{map-map, reverse-cons, reverse-append}
 use Rattle.std.specs.List.{flat_map}
-use Rattle.std.specs.Fmt.{digit_glyph, digits, digits_output, styled_digits_output, format_spec, padded_integral}
-use Rattle.std.specs.Option.{option_map}
-use Rattle.std.proofs.lemmas.Fmt.{hex_byte}
+use Rattle.std.specs.Fmt.{digit_glyph}
 use Rattle.std.proofs.lemmas.Bool.{false≢true, eqb-true}
-use Rattle.std.proofs.lemmas.List.{map-append, flat_map_more, take_more, take_all}
+use Rattle.std.proofs.lemmas.List.{map-append, take_more, take_all}
 use Rattle.wire.specs.Meaning.{data_of, entry_of}
 use Rattle.wire.specs.Text.{data_text, entry_text}
 use Rattle.wire.specs.declared.values.Data.{Data}
@@ -44,7 +42,7 @@ block_whole (x ∷ xs) d i h e =
 abbrev pub two : ℕ → List ℕ
 two b = digit_glyph false (b / 16) ∷ digit_glyph false (b % 16) ∷ []
 
-hex_flat : (bs : List ℕ) → flat_map two bs ≡ hex bs
+pub hex_flat : (bs : List ℕ) → flat_map two bs ≡ hex bs
 unfolding hex
 hex_flat [] = refl
 hex_flat (b ∷ bs) = ap (λ (t : List ℕ). two b ++ t) (hex_flat bs)
@@ -54,22 +52,14 @@ unfolding bytes_text
 bytes_none [] e = refl
 bytes_none (b ∷ bs) e = absurd (omega (arith, eqb-true (length (b ∷ bs)) 0 (sym e)))
 
--- what is printed of a byte
-pub two_digits : (b : ℕ) (d : _) (s : _) → b < 256 → digits_output d ≡ Some (digits 16 false b) → s ≡ format_spec 32 0 4 2 (2 ^ 64 - 1)
-    → styled_digits_output d s ≡ Some (two b)
-two_digits b d s small e k = rw k (ap (option_map (padded_integral (format_spec 32 0 4 2 (2 ^ 64 - 1)) false [])) e ∙ ap (λ (t : List ℕ). Some t) (hex_byte false b small))
+-- all of them
+pub hex_whole : (bs : List ℕ) (i : ℕ) → length bs ≤ i → flat_map two (take i bs) ≡ hex bs
+hex_whole bs i e = rw (take_all i bs e) (hex_flat bs)
 
--- a byte more
-pub hex_more : (bs : List ℕ) (i : ℕ) → i < length bs
-    → flat_map two (take i bs) ++ two (slice_index bs i)
-    ≡ flat_map two (take (i + 1) bs)
-hex_more bs i h = rw (take_more bs i 0 h) (flat_map_more two [] (take i bs) (slice_index bs i))
-
-pub bytes_whole : (bs : List ℕ) (i : ℕ) → false ≡ (length bs == 0) → length bs ≤ i
-    → codes "bytes " ++ flat_map two (take i bs) ≡ bytes_text bs
+pub bytes_whole : (bs : List ℕ) → false ≡ (length bs == 0) → codes "bytes " ++ hex bs ≡ bytes_text bs
 unfolding bytes_text
-bytes_whole [] i h e = absurd (false≢true h)
-bytes_whole (b ∷ bs) i h e = rw (take_all i (b ∷ bs) e, hex_flat (b ∷ bs))
+bytes_whole [] h = absurd (false≢true h)
+bytes_whole (b ∷ bs) h = refl
 
 pub past_none : (ps : List Entry) → length ps < 1 → codes "past" ≡ past_text (map entry_of ps)
 unfolding past_text

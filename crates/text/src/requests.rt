@@ -1,8 +1,9 @@
 // What a line asks of a client, and as text.
-ghost use Rattle.std.specs.Prelude.{◌≡◌, map, Some};
-ghost use Rattle.std.specs.Fmt.{DisplaysOnOk};
+ghost use Rattle.std.specs.Prelude.{◌≡◌, ◌*◌, ◌<◌, ◌≤◌, false, map, length, take, Some};
+ghost use Rattle.std.specs.Fmt.{DisplaysOnOk, digit_glyph};
+ghost use Rattle.std.specs.List.{flat_map};
 ghost use Rattle.wire.specs.Meaning.{data_of};
-ghost use Rattle.text.specs.Text.{block_text, bytes_text, request_text, may_text};
+ghost use Rattle.text.specs.Text.{block_text, bytes_text, hex, request_text, may_text};
 ghost use Rattle.text.specs.Meaning.{request_of};
 
 use std::fmt;
@@ -72,10 +73,53 @@ fn write_bytes<W: fmt::Write>(f: &mut fmt::Formatter<W>, bytes: &[u8]) -> fmt::R
         return write!(f, "bytes");
     }
     write!(f, "bytes ")?;
-    for byte in bytes {
-        write!(f, "{byte:02x}")?;
+    let (parts, rest) = bytes.as_chunks();
+    write_parts(f, parts)?;
+    write_part(f, rest)
+}
+
+// Parts in hexadecimal, one after another.
+fn write_parts<W: fmt::Write>(f: &mut fmt::Formatter<W>, parts: &[[u8; 32]]) -> fmt::Result
+    ensures { DisplaysOnOk W.write_str_gives f.old result (Some (flat_map hex parts.now)) f.new }
+{
+    for part in parts {
+        write_part(f, part)?;
     }
     Ok(())
+}
+
+// At most 32 bytes in hexadecimal. Their digits are handed on as one text, since handing on costs more than a digit.
+fn write_part<W: fmt::Write>(f: &mut fmt::Formatter<W>, part: &[u8]) -> fmt::Result
+    requires { length part.now ≤ 32 }
+    ensures { DisplaysOnOk W.write_str_gives f.old result (Some (hex part.now)) f.new }
+{
+    let mut room = [0u8; 64];
+    put_digits(&mut room, part);
+    f.write_str(str::from_utf8(&room[..2 * part.len()]).unwrap())
+}
+
+// Puts the two digits of each byte at the front of the room.
+// Stays: digits by hand, since a hole for each byte, `{byte:02x}`, made a run over raw bytes twice as long.
+fn put_digits(room: &mut [u8], bytes: &[u8])
+    requires { 2 * length bytes.now ≤ length room.old }
+    ensures { take (2 * length bytes.now) room.new ≡ hex bytes.now }
+{
+    for (place, byte) in bytes.iter().enumerate() {
+        let pair = [digit(*byte / 16), digit(*byte % 16)];
+        room[2 * place..2 * place + 2].copy_from_slice(&pair);
+    }
+}
+
+// A digit to the base 16.
+fn digit(number: u8) -> u8
+    requires { number < 16 }
+    ensures { result ≡ digit_glyph false number }
+{
+    if number < 10 {
+        b'0' + number
+    } else {
+        b'a' - 10 + number
+    }
 }
 
 // What is answered where it is asked whether data may be decided.

@@ -4,6 +4,7 @@ use Rattle.protocol.specs.Data.{pick}
 use Rattle.protocol.specs.Client.{duty, decided, share, resend, event_number}
 use Rattle.wire.specs.Bytes.{le_value, data_from, duty_from, share_from}
 use Rattle.events.specs.declared.kind.EventKind.TheVariants.{Duty, Decided, Share, Block, Resend}
+use Rattle.events.specs.declared.event.Garbled.{Garbled}
 use Rattle.events.specs.declared.event.Event.TheVariants.{OnDuty, Decided as EventDecided, ShareCame}
 use Rattle.events.specs.Layout.{parse}
 use Rattle.events.specs.Meaning.{event_of}
@@ -19,7 +20,7 @@ returns-in_err-number c =
     let none = none_from_err c.split_first.result _ (sym c.ok_or.ensures.value ∙ c.in_err-number.was) in
     let empty = nil_from_length c.args.bytes.now (rw none.0 at c.split_first.ensures.cases) in
     read_none c.args.bytes.now c.type_inv.bytes c.well_formed.0.0 _ c.from_residual.ensures.0
-    (no_event _ 0 c.from_residual.ensures ∙ rw empty)
+    (no_event_by _ _ 0 c.from_residual.ensures (ap (λ (g : Garbled). g.place) none.1) ∙ rw empty)
 
 pub returns-in_err-try_from : goal.returns-in_err-try_from
 returns-in_err-try_from c =

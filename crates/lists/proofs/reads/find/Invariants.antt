@@ -2,7 +2,7 @@
 use Rattle.std.proofs.Common.{List, ℕ, Bool}
 use Rattle.rows.specs.Rows.{Tests}
 use Rattle.lists.proofs.Finding.{Passed}
-use Rattle.lists.proofs.list.List.find.Given as goal
+use Rattle.lists.proofs.reads.find.Given as goal
 
 abbrev pub invariant-loop-place : goal.invariant-loop-place
-invariant-loop-place g l = (p : List ℕ → Bool) → Tests g.F.Fn l.which g.row.W p → Passed p g.row.W l.self.room l.place l.self.region.now
+invariant-loop-place g l = (p : List ℕ → Bool) → Tests g.F.Fn l.which l.width p → Passed p l.width l.room l.place l.region
