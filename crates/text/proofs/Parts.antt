@@ -30,8 +30,8 @@ is_ok bs P Q (Ok x) m h = refl
 is_ok bs P Q (Err e) m h = absurd (m.0 h)
 
 -- a part more
-pub parts_more : (ps : List (List ℕ)) (d : List ℕ) (i : ℕ) → i < length ps → flat_map hex (take i ps) ++ hex (slice_index_or ps i d) ≡ flat_map hex (take (i + 1) ps)
-parts_more ps d i h = rw (take_more ps i d h) (flat_map_more hex [] (take i ps) (slice_index_or ps i d))
+pub one_part_more : (ps : List (List ℕ)) (d : List ℕ) (i : ℕ) → i < length ps → flat_map hex (take i ps) ++ hex (slice_index_or ps i d) ≡ flat_map hex (take (i + 1) ps)
+one_part_more ps d i h = rw (take_more ps i d h) (flat_map_more hex [] (take i ps) (slice_index_or ps i d))
 
 -- the parts of some bytes, and then those that are left
 parts_and_rest : (k : ℕ) (bs : List ℕ) → flat_map hex (first_chunks 32 k bs) ++ hex (drop (k * 32) bs) ≡ hex bs

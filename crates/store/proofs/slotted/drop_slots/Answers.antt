@@ -1,4 +1,4 @@
-use Rattle.std.proofs.Common.{◌≡◌, not, rules}
+use Rattle.std.proofs.Common.{not, rules}
 use Rattle.store.specs.Among.{among}
 use Rattle.store.proofs.slotted.drop_slots.Goals as goal
 
